@@ -1,0 +1,74 @@
+-- The laws of the words of tests.
+use Prim.Native.Nat.{ℕ, zero, suc, _+_, _≤_, _<_}
+use native.Mathlib.Nat.{le-of-suc-le-suc, lt-of-lt-of-le, le-trans}
+use mathlib.Core.Path.{_≡_, refl, sym, subst, _∙_}
+use mathlib.Core.Bool.{Bool, true, false, not, _&&_}
+use mathlib.Core.List.{List, [], _∷_}
+use lib.Dec.{T, leb, eqb, leb→le}
+use native.Mathlib.Omega.{arith}
+use borrow.Author.Tests.{le-leb, lt-leb, leb-true, eqb-true, eqb-false}
+use borrow.Author.Needs.{zero≤}
+use Rattle.wire.specs.Tests.{pick, inRange, firstFailed}
+
+and-false : (a : Bool) → (a && false) ≡ false
+and-false true = refl
+and-false false = refl
+
+-- ---- a range, in the form that a `match` with ranges leaves: `lo ≤ n` where a test was left, `n < suc hi` where one was taken
+pub range-in : (lo hi n : ℕ) → lo ≤ n → n < suc hi → inRange lo hi n ≡ true
+unfolding inRange
+range-in lo hi n a b = simp (le-leb lo n a, le-leb n hi (le-of-suc-le-suc b))
+
+pub range-low : (lo hi n : ℕ) → n < lo → inRange lo hi n ≡ false
+unfolding inRange
+range-low lo hi n a = simp (lt-leb lo n a)
+
+pub range-high : (lo hi n : ℕ) → suc hi ≤ n → inRange lo hi n ≡ false
+unfolding inRange
+range-high lo hi n a = simp (lt-leb n hi a, and-false)
+
+-- a bound by a numeral is one by any larger numeral: the first comes from a hypothesis
+pub lt-lit : (n a b : ℕ) → n < a → T (leb a b) → n < b
+lt-lit n a b h t = lt-of-lt-of-le h (leb→le a b t)
+
+pub le-lit : (n a b : ℕ) → a ≤ n → T (leb b a) → b ≤ n
+le-lit n a b h t = le-trans (leb→le b a t) h
+
+-- `search ranges` closes each return of a `match` with ranges
+pub ruleset ranges = (tt, zero≤, range-in, range-low, range-high, lt-lit, le-lit)
+
+-- ---- tests taken apart
+pub both-true : (a b : Bool) → (a && b) ≡ true → (a ≡ true) × (b ≡ true)
+both-true true b h = (refl, h)
+both-true false b h = absurd (eqb-false 0 0 (sym h) refl)
+
+pub range-ends : (lo hi n : ℕ) → inRange lo hi n ≡ true → (lo ≤ n) × (n ≤ hi)
+unfolding inRange
+range-ends lo hi n h =
+    let e = both-true (leb lo n) (leb n hi) h in (leb-true lo n (e .0), leb-true n hi (e .1))
+
+-- P at each of lo, lo + 1, .. up to lo + n
+abbrev pub Each : (ℕ → Type 0) → ℕ → ℕ → Type 0
+Each P zero lo = P lo
+Each P (suc n) lo = P lo × Each P n (suc lo)
+
+-- either b is k, or it is another
+is-or-not : (P : ℕ → Type 0) (b k : ℕ) → P k → ((b ≡ k → ⊥) → P b) → P b
+is-or-not P b k p other = by-test (eqb b k) refl where
+  by-test : (t : Bool) → eqb b k ≡ t → P b
+  by-test true e = subst P (sym (eqb-true b k e)) p
+  by-test false e = other (eqb-false b k e)
+
+-- what holds at each number of a list holds at any number in its range: a list of codes is gone through once
+pub each : (P : ℕ → Type 0) (n lo : ℕ) → Each P n lo → (b : ℕ) → lo ≤ b → b ≤ lo + n → P b
+each P zero lo p b l h = subst P (let e : lo ≡ b = omega arith in e) p
+each P (suc n) lo p b l h = is-or-not P b lo (p .0) (λ k. each P n (suc lo) (p .1) b (omega arith) (omega arith))
+
+pub each-listed : (P : ℕ → Type 0) (n lo : ℕ) → Each P n lo → (b : ℕ) → inRange lo (lo + n) b ≡ true → P b
+each-listed P n lo p b h = let e = range-ends lo (lo + n) b h in each P n lo p b (e .0) (e .1)
+
+-- where no numbered test fails, the first holds and the rest do
+pub all-pass : (n : ℕ) (ok : Bool) (tests : List (ℕ × Bool)) → (n ≡ 0 → ⊥) → firstFailed ((n, ok) ∷ tests) ≡ 0
+    → (ok ≡ true) × (firstFailed tests ≡ 0)
+all-pass n true tests h e = (refl, e)
+all-pass n false tests h e = absurd (h e)
