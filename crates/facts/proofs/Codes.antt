@@ -76,6 +76,35 @@ unfolding flagOf
 flag-again true = refl
 flag-again false = refl
 
+-- ---- a case's number is in its list
+pub side-listed : (s : Side) → inRange 1 2 (sideNumber s) ≡ true
+unfolding inRange
+side-listed Buy = refl
+side-listed Sell = refl
+
+pub kind-listed : (k : Kind) → inRange 1 3 (kindNumber k) ≡ true
+unfolding inRange
+kind-listed Customer = refl
+kind-listed MarketMaker = refl
+kind-listed Other = refl
+
+pub day-listed : (d : Day) → inRange 0 2 (dayNumber d) ≡ true
+unfolding inRange
+day-listed TradeDate = refl
+day-listed NextDay = refl
+day-listed Later = refl
+
+pub agreement-listed : (a : Agreement) → inRange 0 2 (agreementNumber a) ≡ true
+unfolding inRange
+agreement-listed NotMade = refl
+agreement-listed OnPrice = refl
+agreement-listed ToNullify = refl
+
+pub flag-listed : (f : Bool) → inRange 0 1 (flagNumber f) ≡ true
+unfolding inRange
+flag-listed true = refl
+flag-listed false = refl
+
 -- ---- an answer that is a case, with the number that the page gives it
 pub spelled : {A : Type 0} {r a : A} {b : ℕ} (number : A → ℕ) → number a ≡ b → r ≡ a → (r ≡ a) × (number r ≡ b)
 spelled number f e = (e, ap number e ∙ f)

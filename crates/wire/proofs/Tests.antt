@@ -3,8 +3,8 @@ use Prim.Native.Nat.{ℕ, zero, suc, _+_, _≤_, _<_}
 use native.Mathlib.Nat.{le-of-suc-le-suc, lt-of-lt-of-le, le-trans}
 use mathlib.Core.Path.{_≡_, refl, sym, subst, _∙_}
 use mathlib.Core.Bool.{Bool, true, false, not, _&&_}
-use mathlib.Core.List.{List, [], _∷_}
-use lib.Dec.{T, leb, eqb, leb→le}
+use mathlib.Core.List.{List, [], _∷_, _++_}
+use lib.Dec.{T, leb, eqb, leb→le, T-not}
 use native.Mathlib.Omega.{arith}
 use borrow.Author.Tests.{le-leb, lt-leb, leb-true, eqb-true, eqb-false}
 use borrow.Author.Needs.{zero≤}
@@ -67,8 +67,19 @@ each P (suc n) lo p b l h = is-or-not P b lo (p .0) (λ k. each P n (suc lo) (p 
 pub each-listed : (P : ℕ → Type 0) (n lo : ℕ) → Each P n lo → (b : ℕ) → inRange lo (lo + n) b ≡ true → P b
 each-listed P n lo p b h = let e = range-ends lo (lo + n) b h in each P n lo p b (e .0) (e .1)
 
--- where no numbered test fails, the first holds and the rest do
-pub all-pass : (n : ℕ) (ok : Bool) (tests : List (ℕ × Bool)) → (n ≡ 0 → ⊥) → firstFailed ((n, ok) ∷ tests) ≡ 0
-    → (ok ≡ true) × (firstFailed tests ≡ 0)
-all-pass n true tests h e = (refl, e)
-all-pass n false tests h e = absurd (h e)
+-- where no numbered test fails, this one holds and the later ones do
+pub none-fails : (ok : Bool) (n later : ℕ) → T (not (eqb n 0)) → pick ok later n ≡ 0 → (ok ≡ true) × (later ≡ 0)
+none-fails true n later h e = (refl, e)
+none-fails false n later h e = absurd (T-not (eqb n 0) h (subst (λ (k : ℕ). T (eqb k 0)) (sym e) tt))
+
+-- no test has the number 0
+abbrev pub Numbered : List (ℕ × Bool) → Type 0
+Numbered [] = Unit {0}
+Numbered ((n, ok) ∷ tests) = (eqb n 0 ≡ false) × Numbered tests
+
+-- of two rows of tests the second is asked where the first has none that fails
+pub first-append : (tests later : List (ℕ × Bool)) → Numbered tests
+    → firstFailed (tests ++ later) ≡ pick (eqb (firstFailed tests) 0) (firstFailed later) (firstFailed tests)
+first-append [] later h = refl
+first-append ((n, true) ∷ tests) later h = first-append tests later (h .1)
+first-append ((n, false) ∷ tests) later h = simp (h .0)

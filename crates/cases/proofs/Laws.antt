@@ -1,0 +1,120 @@
+-- What reading and writing answer, by the test that decides.
+use Prim.Native.Nat.{ℕ, _≤_, _<_}
+use mathlib.Core.Path.{_≡_, refl, sym, ap, _∙_}
+use mathlib.Core.Bool.{Bool, true, false, _&&_}
+use mathlib.Core.List.{List, []}
+use lib.ListN.{length}
+use lib.Dec.{leb, eqb}
+use borrow.Author.Tests.{le-leb, lt-leb, leb-true, eq-eqb, ne-eqb, eqb-true, eqb-false}
+use Rattle.wire.specs.Tests.{pick, firstFailed}
+use Rattle.wire.proofs.Tests.{both-true, none-fails, first-append}
+use Rattle.record.specs.Record.{factsOf, recordBytes}
+use Rattle.refusals.specs.Tests.{lengthOk, headOk, zerosOk, listsOk, formTests, factTests, formFaultOf, faultOf}
+use Rattle.cases.specs.Words.{Facts}
+use Rattle.cases.specs.Cases.{refusalOf, accepted, refused, readingOf, writeRefusalOf, writingOf}
+
+-- ---- reading
+module _ (s : List ℕ) where
+  in-order : refusalOf s ≡ pick (eqb (formFaultOf s) 0) (faultOf (factsOf s)) (formFaultOf s)
+  unfolding refusalOf formFaultOf faultOf
+  in-order = first-append (formTests s) (factTests (factsOf s)) (refl, (refl, (refl, tt)))
+
+  accepted-at : refusalOf s ≡ 0 → readingOf s ≡ accepted (factsOf s)
+  unfolding readingOf
+  accepted-at e = simp (eq-eqb (refusalOf s) 0 e)
+
+  refused-at : (n : ℕ) → refusalOf s ≡ n → (n ≡ 0 → ⊥) → readingOf s ≡ refused n
+  unfolding readingOf
+  refused-at n e h = simp (e, ne-eqb n 0 h)
+
+  -- the bytes are not a case record: 1 to 3
+  pub refused-form : (n : ℕ) → n ≡ formFaultOf s → (n ≡ 0 → ⊥) → readingOf s ≡ refused n
+  refused-form n e h = refused-at n (in-order ∙ simp (ne-eqb (formFaultOf s) 0 (λ z. h (e ∙ z))) (sym e)) h
+
+  module _ (n : ℕ) (f : Facts) (formed : formFaultOf s ≡ 0) (says : f ≡ factsOf s) (e : n ≡ faultOf f) where
+    decided : refusalOf s ≡ n
+    decided = in-order ∙ simp (eq-eqb (formFaultOf s) 0 formed) (ap faultOf (sym says) ∙ sym e)
+
+    -- the facts fail a test: 4 to 9
+    pub refused-facts : (n ≡ 0 → ⊥) → readingOf s ≡ refused n
+    refused-facts h = refused-at n decided h
+
+    -- no test fails
+    pub read-facts : n ≡ 0 → readingOf s ≡ accepted f
+    read-facts z = accepted-at (decided ∙ z) ∙ ap accepted (sym says)
+
+  -- ---- what passes the tests 1 to 3
+  pub record Formed : Type 0 where
+    pub whole : length s ≡ 88
+    pub head : headOk s ≡ true
+    pub zeros : zerosOk s ≡ true
+    pub lists : listsOk s ≡ true
+
+  pub formed : formFaultOf s ≡ 0 → Formed
+  unfolding formFaultOf
+  formed e =
+      let t1 = none-fails (lengthOk s) 1 _ tt e in
+      let t2 = none-fails (headOk s) 2 _ tt (t1 .1) in
+      let t3 = none-fails (zerosOk s && listsOk s) 3 _ tt (t2 .1) in
+      let z = both-true (zerosOk s) (listsOk s) (t3 .0) in
+      record { whole = eqb-true (length s) 88 (t1 .0); head = t2 .0; zeros = z .0; lists = z .1 }
+
+  -- bytes that pass them so do, whatever the facts
+  pub well-formed : Formed → formFaultOf s ≡ 0
+  unfolding formFaultOf
+  well-formed f = simp (eq-eqb (length s) 88 (f .whole), f .head, f .zeros, f .lists)
+
+  -- ---- what is accepted
+  pub accepts : readingOf s .refusal ≡ 0 → refusalOf s ≡ 0
+  unfolding readingOf refused
+  accepts e = by-test (eqb (refusalOf s) 0) refl e where
+    by-test : (t : Bool) → eqb (refusalOf s) 0 ≡ t → pick t (accepted (factsOf s)) (refused (refusalOf s)) .refusal ≡ 0 → refusalOf s ≡ 0
+    by-test true h z = eqb-true (refusalOf s) 0 h
+    by-test false h z = z
+
+  pub accepted-form : readingOf s .refusal ≡ 0 → formFaultOf s ≡ 0
+  accepted-form e = by-test (eqb (formFaultOf s) 0) refl (sym in-order ∙ accepts e) where
+    by-test : (t : Bool) → eqb (formFaultOf s) 0 ≡ t → pick t (faultOf (factsOf s)) (formFaultOf s) ≡ 0 → formFaultOf s ≡ 0
+    by-test true h z = eqb-true (formFaultOf s) 0 h
+    by-test false h z = z
+
+  pub accepted-reading : readingOf s .refusal ≡ 0 → readingOf s ≡ accepted (factsOf s)
+  accepted-reading e = accepted-at (accepts e)
+
+  pub accepted-facts : readingOf s .refusal ≡ 0 → faultOf (factsOf s) ≡ 0
+  accepted-facts e = sym (simp (eq-eqb (formFaultOf s) 0 (accepted-form e)) at in-order) ∙ accepts e
+
+-- ---- writing
+module _ (f : Facts) (room : ℕ) where
+  refused-room : room < 88 → writeRefusalOf f room ≡ 11
+  unfolding writeRefusalOf
+  refused-room h = simp (lt-leb 88 room h)
+
+  in-room : 88 ≤ room → writeRefusalOf f room ≡ faultOf f
+  unfolding writeRefusalOf faultOf
+  in-room h = simp (le-leb 88 room h)
+
+  refusing : (n : ℕ) → writeRefusalOf f room ≡ n → (n ≡ 0 → ⊥) → writingOf f room ≡ (n, [])
+  unfolding writingOf
+  refusing n e h = simp (e, ne-eqb n 0 h)
+
+  pub writes-short : room < 88 → writingOf f room ≡ (11, [])
+  writes-short h = refusing 11 (refused-room h) (eqb-false 11 0 refl)
+
+  pub writes-refused : (n : ℕ) → 88 ≤ room → n ≡ faultOf f → (n ≡ 0 → ⊥) → writingOf f room ≡ (n, [])
+  writes-refused n h e k = refusing n (in-room h ∙ sym e) k
+
+  pub writes-facts : 88 ≤ room → faultOf f ≡ 0 → writingOf f room ≡ (0, recordBytes f)
+  unfolding writingOf
+  writes-facts h e = simp (eq-eqb (writeRefusalOf f room) 0 (in-room h ∙ e))
+
+  -- what is written had room and passed the tests
+  pub writes : writingOf f room .0 ≡ 0 → (88 ≤ room) × (faultOf f ≡ 0)
+  unfolding writingOf writeRefusalOf faultOf
+  writes e = by-test (eqb (writeRefusalOf f room) 0) refl e where
+    passed : writeRefusalOf f room ≡ 0 → (88 ≤ room) × (faultOf f ≡ 0)
+    passed z = let t = none-fails (leb 88 room) 11 _ tt z in (leb-true 88 room (t .0), t .1)
+
+    by-test : (t : Bool) → eqb (writeRefusalOf f room) 0 ≡ t → pick {A = ℕ × List ℕ} t (0, recordBytes f) (writeRefusalOf f room, []) .0 ≡ 0 → (88 ≤ room) × (faultOf f ≡ 0)
+    by-test true h z = passed (eqb-true (writeRefusalOf f room) 0 h)
+    by-test false h z = passed z

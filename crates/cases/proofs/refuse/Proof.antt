@@ -1,0 +1,17 @@
+use Rattle.cases.specs.Cases.{refused}
+use borrow.Author.Needs.{needs}
+use Rattle.cases.proofs.refuse.Statement.{statement}
+use Rattle.cases.proofs.refuse.Tie as tie
+
+slice-aggregate-facts-of : tie.Need-slice-aggregate-facts-of
+slice-aggregate-facts-of c = search needs
+
+facts-of-requires : tie.Need-facts-of-requires
+facts-of-requires c κs = search needs
+
+returns : tie.Need-returns
+unfolding refused
+returns c = cc
+
+pub refuse-spec : {M : Type 1} → statement M
+refuse-spec = tie.close (tie.spec slice-aggregate-facts-of facts-of-requires returns)

@@ -1,0 +1,59 @@
+// A case read and written: any byte string gives facts or the number of the first test that it fails; any facts give
+// 88 bytes or such a number. Refused with 1 to 9 in reading, 11 and 4 to 9 in writing (3 cannot arise there: the facts'
+// types have no other cases). A refused writing leaves the buffer as it was.
+ghost use mathlib.Core.Path.{_≡_};
+ghost use lib.ListN.{length};
+ghost use Rattle.wire.specs.Laid.{laid};
+ghost use Rattle.cases.specs.Cases.{refused, readingOf, writingOf};
+use facts::Facts;
+
+// The facts where refusal is 0; otherwise the number of the first test that failed, beside fixed facts that nobody uses.
+pub struct Reading {
+    pub refusal: u8,
+    pub facts: Facts,
+}
+
+fn refuse(n: u8) -> Reading
+    ensures { λ r. ⌜ r ≡ refused n ⌝ }
+{
+    let zeros = [0u8; 88];
+    let facts = record::facts_of(&zeros);
+    Reading {
+        refusal: n,
+        facts: facts,
+    }
+}
+
+// Reads a case: tests 1, then 2 to 9.
+pub fn read_case(s: &[u8]) -> Reading
+    ensures { λ r. ⌜ r ≡ readingOf (now (s .entry)) ⌝ }
+{
+    let form = refusals::form_fault(s);
+    if form != 0 {
+        return refuse(form);
+    }
+    let facts = record::facts_of(s);
+    let n = refusals::fault(facts);
+    if n != 0 {
+        return refuse(n);
+    }
+    Reading {
+        refusal: 0,
+        facts: facts,
+    }
+}
+
+// Writes a case: tests 11, then 3 to 9. Answers the number, 0 where the 88 bytes are written.
+pub fn write_case(f: Facts, out: &mut [u8]) -> u8
+    ensures { λ r. ⌜ (r ≡ writingOf f (length (now (out .entry))) .0) × (now (out .exit) ≡ laid (writingOf f (length (now (out .entry))) .1) (now (out .entry))) ⌝ }
+{
+    if out.len() < 88 {
+        return 11;
+    }
+    let n = refusals::fault(f);
+    if n != 0 {
+        return n;
+    }
+    record::put_facts(out, f);
+    0
+}
