@@ -1,0 +1,447 @@
+// Records brought to the desk, good and damaged, and what they get: run and compared with `stdout`, which was
+// worked out by hand from document 01 (see docs/RULEBOOK.md). Each line names the record and gives its number, 0 where it is accepted.
+ghost use mathlib.Core.Path.{_≡_};
+ghost use lib.ListN.{length};
+use facts::Contracts;
+use facts::Facts;
+use facts::Mills;
+use facts::Trade;
+use libc::STDOUT_FILENO;
+
+// The mark "none".
+const NONE: u32 = 4294967295;
+
+// ---- the records
+
+// Trade 7: a Market Maker bought 10 at 2.000 from another at 9:30:00 (34,200), the market 1.400 for 20 to 1.500 for 30;
+// filed 120 s later. No limits, no agreement, no official's price. A row here is a row of 01's table.
+fn good() -> [u8; 88]
+    ensures { λ r. ⌜ length r ≡ 88 ⌝ }
+{
+    [
+        88,
+        0,
+        1,
+        0, // length, kind
+        7,
+        0,
+        0,
+        0, // trade number
+        208,
+        7,
+        0,
+        0, // execution price
+        10,
+        0,
+        0,
+        0, // contracts
+        152,
+        133,
+        0,
+        0, // execution time
+        120,
+        5,
+        0,
+        0, // best bid
+        220,
+        5,
+        0,
+        0, // best offer
+        20,
+        0,
+        0,
+        0, // bid size
+        30,
+        0,
+        0,
+        0, // offer size
+        0,
+        0,
+        0,
+        0, // zero
+        255,
+        255,
+        255,
+        255, // official's price
+        1,
+        0,
+        0,
+        0, // side, opening, expiry deadline, panel
+        65,
+        66,
+        49,
+        50, // buyer's code
+        255,
+        255,
+        255,
+        255, // and limit
+        90,
+        88,
+        57,
+        48, // seller's code
+        255,
+        255,
+        255,
+        255, // and limit
+        2,
+        2,
+        0,
+        0, // kinds, filing day, agreement
+        255,
+        255,
+        255,
+        255, // agreed price
+        16,
+        134,
+        0,
+        0, // filing time
+        0,
+        0,
+        0,
+        0, // agreement made
+        255,
+        255,
+        255,
+        255, // acceptance
+        0,
+        0,
+        0,
+        0, // zero
+    ]
+}
+
+// The record with one byte changed.
+fn byte(case: [u8; 88], at: u8, b: u8) -> [u8; 88] {
+    let mut changed = case;
+    let i = at as usize;
+    if i < 88 {
+        changed[i] = b;
+    }
+    changed
+}
+
+// The record with a four-byte number changed.
+fn word(case: [u8; 88], at: u8, n: u32) -> [u8; 88] {
+    let mut changed = case;
+    let i = at as usize;
+    if i < 85 {
+        wire::put_u32(&mut changed, i, n);
+    }
+    changed
+}
+
+// Facts that no reading gives: the good record's with another execution price and number of contracts.
+fn facts_with(price: Mills, contracts: Contracts) -> Facts {
+    let case = good();
+    let reading = cases::read_case(&case);
+    let f = reading.facts;
+    let trade = f.trade;
+    let executed = trade.executed;
+    let market = f.market;
+    let request = f.request;
+    let buyer = f.buyer;
+    let seller = f.seller;
+    let settlement = f.settlement;
+    Facts {
+        trade: Trade {
+            number: trade.number,
+            price: price,
+            contracts: contracts,
+            executed: executed,
+        },
+        market: market,
+        request: request,
+        buyer: buyer,
+        seller: seller,
+        settlement: settlement,
+    }
+}
+
+// ---- a line each
+
+fn say(text: &[u8]) {
+    io::write_all(STDOUT_FILENO, text);
+}
+
+fn say_number(name: &[u8], n: u8) {
+    say(name);
+    say(b": ");
+    io::print_decimal(STDOUT_FILENO, n as u64);
+}
+
+fn say_which(yes: bool, first: &[u8], second: &[u8]) {
+    if yes {
+        say(first);
+    } else {
+        say(second);
+    }
+}
+
+fn reading_of(name: &[u8], case: &[u8]) {
+    say_number(name, cases::read_case(case).refusal);
+    say(b"\n");
+}
+
+fn reading(name: &[u8], case: [u8; 88]) {
+    reading_of(name, &case);
+}
+
+// Writes the facts into the first `room` bytes of the buffer.
+fn write_into(f: Facts, room: u8, out: &mut [u8]) -> u8 {
+    let end = room as usize;
+    if end <= out.len() {
+        return cases::write_case(f, &mut out[0..end]);
+    }
+    255
+}
+
+// Whether the record now stands at the start of the buffer, and whether the bytes behind it are as they were.
+fn standing(out: &[u8], case: [u8; 88]) {
+    let fresh = [238u8; 96];
+    say_which(check::same(out, &fresh), b", untouched", b"");
+    if 88 <= out.len() {
+        say_which(
+            check::same(&out[0..88], &case),
+            b", written",
+            b", not written",
+        );
+        say_which(
+            check::same(&out[88..], b"\xee\xee\xee\xee\xee\xee\xee\xee"),
+            b", kept behind it\n",
+            b", changed behind it\n",
+        );
+    }
+}
+
+fn writing(name: &[u8], f: Facts, room: u8, case: [u8; 88]) {
+    let mut out = [238u8; 96];
+    say_number(name, write_into(f, room, &mut out));
+    standing(&out, case);
+}
+
+// ---- read
+
+fn lengths() {
+    let case = good();
+    reading_of(b"good", &case);
+    reading_of(b"no byte at all", &case[0..0]);
+    reading_of(b"87 bytes", &case[0..87]);
+}
+
+fn too_long() {
+    let bytes = [0u8; 89];
+    reading_of(b"89 bytes", &bytes);
+}
+
+fn heads() {
+    reading(b"length 89", byte(good(), 0, 89));
+    reading(b"length 344", byte(good(), 1, 1));
+    reading(b"kind 2", byte(good(), 2, 2));
+    reading(b"length turned", byte(byte(good(), 0, 0), 1, 88));
+}
+
+fn zeros() {
+    reading(b"byte 36 is 1", byte(good(), 36, 1));
+    reading(b"byte 39 is 1", byte(good(), 39, 1));
+    reading(b"byte 84 is 1", byte(good(), 84, 1));
+    reading(b"byte 87 is 1", byte(good(), 87, 1));
+}
+
+fn lists() {
+    reading(b"side 0", byte(good(), 44, 0));
+    reading(b"side 2", byte(good(), 44, 2));
+    reading(b"side 3", byte(good(), 44, 3));
+    reading(b"opening 2", byte(good(), 45, 2));
+    reading(b"expiry deadline 2", byte(good(), 46, 2));
+    reading(b"panel 255", byte(good(), 47, 255));
+}
+
+fn more_lists() {
+    reading(b"buyer of kind 0", byte(good(), 64, 0));
+    reading(b"buyer of kind 3", byte(good(), 64, 3));
+    reading(b"seller of kind 4", byte(good(), 65, 4));
+    reading(b"day 2", byte(good(), 66, 2));
+    reading(b"day 3", byte(good(), 66, 3));
+    reading(b"agreement 3", byte(good(), 67, 3));
+}
+
+fn codes() {
+    reading(b"code with '/'", byte(good(), 48, 47));
+    reading(b"code with ':'", byte(good(), 49, 58));
+    reading(b"code with '@'", byte(good(), 50, 64));
+    reading(b"code with '['", byte(good(), 51, 91));
+    reading(b"code with 'a'", byte(good(), 56, 97));
+    reading(b"code with 0", byte(good(), 59, 0));
+    reading(b"both codes alike", word(good(), 56, 842089025));
+}
+
+fn prices() {
+    reading(
+        b"the March record, bid 3691315200",
+        word(good(), 20, 3691315200),
+    );
+    reading(b"execution none", word(good(), 8, NONE));
+    reading(b"execution 10000000", word(good(), 8, 10000000));
+    reading(b"execution 9999999", word(good(), 8, 9999999));
+    reading(b"offer 10000000", word(good(), 24, 10000000));
+    reading(b"official 10000000", word(good(), 40, 10000000));
+    reading(b"official 0", word(good(), 40, 0));
+}
+
+fn more_prices() {
+    reading(b"buyer's limit 10000000", word(good(), 52, 10000000));
+    reading(b"buyer's limit 9999999", word(good(), 52, 9999999));
+    reading(b"seller's limit 4294967294", word(good(), 60, 4294967294));
+    reading(
+        b"agreed 10000000 where none was made",
+        word(good(), 68, 10000000),
+    );
+}
+
+fn counts() {
+    reading(b"0 contracts", word(good(), 12, 0));
+    reading(b"1000000 contracts", word(good(), 12, 1000000));
+    reading(b"1000001 contracts", word(good(), 12, 1000001));
+    reading(b"bid above zero of size 0", word(good(), 28, 0));
+    reading(b"offer of size 1000001", word(good(), 32, 1000001));
+    reading(b"no bid, size 20", word(good(), 20, NONE));
+    reading(b"no bid, size 0", word(word(good(), 20, NONE), 28, 0));
+}
+
+fn more_counts() {
+    reading(b"bid of zero, size 20", word(good(), 20, 0));
+    reading(b"bid of zero, size 0", word(word(good(), 20, 0), 28, 0));
+    reading(
+        b"bid of zero, size 1000001",
+        word(word(good(), 20, 0), 28, 1000001),
+    );
+}
+
+fn times() {
+    reading(b"executed at 86400", word(good(), 16, 86400));
+    reading(b"filed at 86399", word(good(), 72, 86399));
+    reading(b"filed at 86400", word(good(), 72, 86400));
+    reading(b"filed a second before execution", word(good(), 72, 34199));
+    reading(b"filed in the second of execution", word(good(), 72, 34200));
+    reading(
+        b"filed earlier by the clock, day 1",
+        byte(word(good(), 72, 0), 66, 1),
+    );
+}
+
+fn more_times() {
+    reading(b"accepted after 86400", word(good(), 80, 86400));
+    reading(b"accepted after 86401", word(good(), 80, 86401));
+    reading(
+        b"agreement after 86401 where none was made",
+        word(good(), 76, 86401),
+    );
+}
+
+fn limits() {
+    reading(b"execution at the buyer's limit", word(good(), 52, 2000));
+    reading(b"execution above the buyer's limit", word(good(), 52, 1999));
+    reading(b"execution at the seller's limit", word(good(), 60, 2000));
+    reading(
+        b"execution below the seller's limit",
+        word(good(), 60, 2001),
+    );
+}
+
+fn agreements() {
+    reading(b"a price, no agreement", word(good(), 68, 1500));
+    reading(b"1 second, no agreement", word(good(), 76, 1));
+    reading(b"on a price, none there", byte(good(), 67, 1));
+    reading(b"on a price, at once", byte(word(good(), 68, 1500), 67, 1));
+    reading(b"to nullify, at once", byte(good(), 67, 2));
+    reading(
+        b"to nullify, a price there",
+        byte(word(good(), 68, 1500), 67, 2),
+    );
+}
+
+// Two faults at once, or more: the table's order decides.
+fn orders() {
+    reading(b"2 before 3", byte(byte(good(), 36, 1), 2, 2));
+    reading(b"3 before 4", byte(byte(good(), 48, 0), 44, 0));
+    reading(b"4 before 5", byte(word(good(), 8, NONE), 59, 32));
+    reading(b"5 before 6", word(word(good(), 12, 0), 8, NONE));
+    reading(b"6 before 7", word(word(good(), 16, 86400), 12, 0));
+    reading(b"7 before 8", word(word(good(), 52, 1), 72, 0));
+    reading(b"8 before 9", word(word(good(), 76, 1), 52, 1999));
+}
+
+fn more_orders() {
+    reading(
+        b"3 to 9 at once",
+        word(
+            word(word(byte(byte(good(), 47, 9), 48, 33), 8, NONE), 12, 0),
+            72,
+            1,
+        ),
+    );
+    reading(b"88 bytes of 0", [0u8; 88]);
+    reading(b"88 bytes of 255", [255u8; 88]);
+}
+
+// ---- written
+
+fn again(name: &[u8], case: [u8; 88], room: u8) {
+    let reading = cases::read_case(&case);
+    writing(name, reading.facts, room, case);
+}
+
+fn writings() {
+    again(b"good into 96", good(), 96);
+    again(b"good into 88", good(), 88);
+    again(b"good into 87", good(), 87);
+    again(b"good into none", good(), 0);
+    again(
+        b"sell on the opening into 96",
+        byte(byte(word(good(), 52, 2000), 44, 2), 45, 1),
+        96,
+    );
+}
+
+fn refused_writings() {
+    writing(
+        b"execution none into 96",
+        facts_with(Mills(NONE), Contracts(10)),
+        96,
+        good(),
+    );
+    writing(
+        b"execution none into 87",
+        facts_with(Mills(NONE), Contracts(10)),
+        87,
+        good(),
+    );
+    writing(
+        b"0 contracts into 88",
+        facts_with(Mills(2000), Contracts(0)),
+        88,
+        good(),
+    );
+}
+
+fn main() {
+    lengths();
+    too_long();
+    heads();
+    zeros();
+    lists();
+    more_lists();
+    codes();
+    prices();
+    more_prices();
+    counts();
+    more_counts();
+    times();
+    more_times();
+    limits();
+    agreements();
+    orders();
+    more_orders();
+    writings();
+    refused_writings();
+}
