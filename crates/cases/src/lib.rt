@@ -33,7 +33,7 @@ pub fn read_case(s: &[u8]) -> Reading
         return refuse(form);
     }
     let facts = record::facts_of(s);
-    let n = refusals::fault(facts);
+    let n = faults::fault(facts);
     if n != 0 {
         return refuse(n);
     }
@@ -50,10 +50,10 @@ pub fn write_case(f: Facts, out: &mut [u8]) -> u8
     if out.len() < 88 {
         return 11;
     }
-    let n = refusals::fault(f);
+    let n = faults::fault(f);
     if n != 0 {
         return n;
     }
-    record::put_facts(out, f);
+    writing::put_facts(out, f);
     0
 }

@@ -1,0 +1,4 @@
+pub mod Reasons
+pub mod Priced
+pub mod Blind
+pub mod Exact

@@ -1,0 +1,44 @@
+-- What counts of an agreement (01, "Then agreement") and of a Customer's acceptance (01, "Then the act"; document 002 (d)(3)(C)).
+use Prim.Native.Nat.{ℕ}
+use mathlib.Core.Bool.{Bool, true, false, not, _||_}
+use Rattle.wire.specs.Tests.{pick}
+use Rattle.facts.specs.Codes.{seconds}
+use Rattle.way.specs.Times.{noLater}
+use Rattle.agreement.specs.Words.{Seconds, Price, At, None, Moment, After, Never, Agreement, NotMade, OnPrice, ToNullify, Settlement, Way, Obvious, Opening, Catastrophic, Heeded, Ignored, Repriced, Undone}
+
+-- Where some party is a Customer an agreement is in time up to 1,800 s after notice, where none is up to 600 s.
+unfoldable pub inTime : Seconds → Bool → Bool
+inTime made customer = pick customer (noLater made (seconds 1800)) (noLater made (seconds 600))
+
+abbrev pub isOpening : Way → Bool
+isOpening Obvious = false
+isOpening Opening = true
+isOpening Catastrophic = false
+
+-- An agreement to nullify counts where no party is a Customer, and on the opening way whoever they are.
+unfoldable pub mayNullify : Way → Bool → Bool
+mayNullify way customer = not customer || isOpening way
+
+-- What was agreed: a price, which always counts, or to nullify, which counts where it may. A price that is not there
+-- can't have been agreed on (refusal 9).
+abbrev pub termsOf : Agreement → Price → Bool → Heeded
+termsOf NotMade agreed nullify = Ignored
+termsOf OnPrice (At p) nullify = Repriced p
+termsOf OnPrice None nullify = Ignored
+termsOf ToNullify agreed true = Undone
+termsOf ToNullify agreed false = Ignored
+
+-- An agreement in time is heeded by its terms; any other is ignored.
+unfoldable pub heededOf : Settlement → Way → Bool → Heeded
+heededOf s way customer = pick (inTime (s .made) customer) (termsOf (s .agreement) (s .agreed) (mayNullify way customer)) Ignored
+
+-- The numbers of byte 67 for what counts: 0 nothing, 1 a price, 2 nullify.
+abbrev pub heededNumber : Heeded → ℕ
+heededNumber Ignored = 0
+heededNumber (Repriced p) = 1
+heededNumber Undone = 2
+
+-- A Customer's acceptance counts up to 1,800 s after notice; none is no acceptance.
+abbrev pub acceptedInTime : Moment → Bool
+acceptedInTime (After t) = noLater t (seconds 1800)
+acceptedInTime Never = false

@@ -1,0 +1,4 @@
+pub mod RoundTrips
+pub mod Laws
+pub mod Demand3
+pub mod Edges

@@ -1,0 +1,34 @@
+use Rattle.refusals.specs.Tests.{pricesOk}
+use borrow.Author.Needs.{needs}
+use Rattle.faults.proofs.prices_ok.Statement.{statement}
+use Rattle.faults.proofs.prices_ok.Tie as tie
+
+mills-ok-requires : tie.Need-mills-ok-requires
+mills-ok-requires c κs = search needs
+
+quotes-priced-requires : tie.Need-quotes-priced-requires
+quotes-priced-requires c κs = search needs
+
+price-ok-requires : tie.Need-price-ok-requires
+price-ok-requires c κs = search needs
+
+price-ok-requires-2 : tie.Need-price-ok-requires-2
+price-ok-requires-2 c κs = search needs
+
+price-ok-requires-3 : tie.Need-price-ok-requires-3
+price-ok-requires-3 c κs = search needs
+
+returns : tie.Need-returns
+unfolding pricesOk
+returns c = cc
+
+pub prices-ok-spec : {M : Type 1} → statement M
+prices-ok-spec =
+    tie.close
+    (tie.spec
+    mills-ok-requires
+    quotes-priced-requires
+    price-ok-requires
+    price-ok-requires-2
+    price-ok-requires-3
+    returns)

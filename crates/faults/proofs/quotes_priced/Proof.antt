@@ -1,0 +1,21 @@
+use Rattle.refusals.specs.Tests.{quotesPriced}
+use borrow.Author.Needs.{needs}
+use Rattle.faults.proofs.quotes_priced.Statement.{statement}
+use Rattle.faults.proofs.quotes_priced.Tie as tie
+
+price-ok-requires : tie.Need-price-ok-requires
+price-ok-requires c κs = search needs
+
+price-ok-requires-2 : tie.Need-price-ok-requires-2
+price-ok-requires-2 c κs = search needs
+
+price-ok-requires-3 : tie.Need-price-ok-requires-3
+price-ok-requires-3 c κs = search needs
+
+returns : tie.Need-returns
+unfolding quotesPriced
+returns c = cc
+
+pub quotes-priced-spec : {M : Type 1} → statement M
+quotes-priced-spec =
+    tie.close (tie.spec price-ok-requires price-ok-requires-2 price-ok-requires-3 returns)

@@ -1,0 +1,186 @@
+// The tests on facts behind document 01's "Numbers given back instead of a ruling", 4 to 9 in the table's order. Their
+// definitions stand in `refusals`, beside those of 1 to 3. Every test is run and the first that fails is told.
+ghost use mathlib.Core.Path.{_≡_};
+ghost use Rattle.refusals.specs.Tests.{codeByteOk, codeOk, codesOk, millsOk, priceOk, quotesPriced, pricesOk, quoteOk, countsOk, momentOk, filedOk, timesOk, limitsOk, agreementOk, faultOf};
+use facts::Agreement;
+use facts::Day;
+use facts::Facts;
+use facts::Market;
+use facts::Mills;
+use facts::Moment;
+use facts::Party;
+use facts::Price;
+use facts::Quote;
+use facts::Request;
+use facts::Seconds;
+use facts::Settlement;
+use facts::Side;
+use facts::Trade;
+
+// ---- 4: member codes
+
+fn code_byte_ok(b: u8) -> bool
+    ensures { λ r. ⌜ r ≡ codeByteOk b ⌝ }
+{
+    match b {
+        b'A'..=b'Z' | b'0'..=b'9' => true,
+        _ => false,
+    }
+}
+
+fn code_ok(c: [u8; 4]) -> bool
+    ensures { λ r. ⌜ r ≡ codeOk c ⌝ }
+{
+    code_byte_ok(c[0]) & code_byte_ok(c[1]) & code_byte_ok(c[2]) & code_byte_ok(c[3])
+}
+
+fn codes_ok(buyer: Party, seller: Party) -> bool
+    ensures { λ r. ⌜ r ≡ codesOk buyer seller ⌝ }
+{
+    let bought = buyer.code;
+    let sold = seller.code;
+    code_ok(bought) & code_ok(sold)
+}
+
+// ---- 5: prices
+
+fn mills_ok(m: Mills) -> bool
+    ensures { λ r. ⌜ r ≡ millsOk m ⌝ }
+{
+    m.0 <= 9999999
+}
+
+fn price_ok(p: Price) -> bool
+    ensures { λ r. ⌜ r ≡ priceOk p ⌝ }
+{
+    match p {
+        Price::At(m) => mills_ok(m),
+        Price::None => true,
+    }
+}
+
+fn quotes_priced(m: Market) -> bool
+    ensures { λ r. ⌜ r ≡ quotesPriced m ⌝ }
+{
+    let bid = m.bid;
+    let bid_price = bid.price;
+    let offer = m.offer;
+    let offer_price = offer.price;
+    let official = m.official;
+    price_ok(bid_price) & price_ok(offer_price) & price_ok(official)
+}
+
+fn prices_ok(f: Facts) -> bool
+    ensures { λ r. ⌜ r ≡ pricesOk f ⌝ }
+{
+    let execution = f.trade.price;
+    let market = f.market;
+    let buyer = f.buyer;
+    let highest = buyer.limit;
+    let seller = f.seller;
+    let lowest = seller.limit;
+    let settlement = f.settlement;
+    let agreed = settlement.agreed;
+    mills_ok(execution)
+        & quotes_priced(market)
+        & price_ok(highest)
+        & price_ok(lowest)
+        & price_ok(agreed)
+}
+
+// ---- 6: contracts and sizes
+
+fn quote_ok(q: Quote) -> bool
+    ensures { λ r. ⌜ r ≡ quoteOk (q .price) (q .size) ⌝ }
+{
+    let price = q.price;
+    match price {
+        Price::At(m) => (q.size.0 <= 1000000) & ((m.0 == 0) | (1 <= q.size.0)),
+        Price::None => q.size.0 == 0,
+    }
+}
+
+fn counts_ok(t: Trade, m: Market) -> bool
+    ensures { λ r. ⌜ r ≡ countsOk t m ⌝ }
+{
+    (1 <= t.contracts.0) & (t.contracts.0 <= 1000000) & quote_ok(m.bid) & quote_ok(m.offer)
+}
+
+// ---- 7: times
+
+fn moment_ok(m: Moment) -> bool
+    ensures { λ r. ⌜ r ≡ momentOk m ⌝ }
+{
+    match m {
+        Moment::After(t) => t.0 <= 86400,
+        Moment::Never => true,
+    }
+}
+
+fn filed_ok(day: Day, executed: Seconds, filed: Seconds) -> bool
+    ensures { λ r. ⌜ r ≡ filedOk day executed filed ⌝ }
+{
+    match day {
+        Day::TradeDate => executed.0 <= filed.0,
+        Day::NextDay => true,
+        Day::Later => true,
+    }
+}
+
+fn times_ok(t: Trade, r: Request, s: Settlement) -> bool
+    ensures { λ o. ⌜ o ≡ timesOk t r s ⌝ }
+{
+    let accepted = s.accepted;
+    let day = r.day;
+    (t.executed.0 <= 86399)
+        & (r.filed.0 <= 86399)
+        & (s.made.0 <= 86400)
+        & moment_ok(accepted)
+        & filed_ok(day, t.executed, r.filed)
+}
+
+// ---- 8: limits
+
+fn limits_ok(t: Trade, buyer: Party, seller: Party) -> bool
+    ensures { λ r. ⌜ r ≡ limitsOk t buyer seller ⌝ }
+{
+    let price = t.price;
+    let highest = buyer.limit;
+    let lowest = seller.limit;
+    !facts::violates(Side::Buy, highest, price) & !facts::violates(Side::Sell, lowest, price)
+}
+
+// ---- 9: the agreement
+
+fn agreement_ok(s: Settlement) -> bool
+    ensures { λ r. ⌜ r ≡ agreementOk (s .agreement) (s .agreed) (s .made) ⌝ }
+{
+    let agreement = s.agreement;
+    let agreed = s.agreed;
+    match agreed {
+        Price::At(_) => match agreement {
+            Agreement::NotMade => false,
+            Agreement::OnPrice => true,
+            Agreement::ToNullify => false,
+        },
+        Price::None => match agreement {
+            Agreement::NotMade => s.made.0 == 0,
+            Agreement::OnPrice => false,
+            Agreement::ToNullify => true,
+        },
+    }
+}
+
+// ---- the first that fails
+
+// The number of the first of the tests 4 to 9 that these facts fail, or 0.
+pub fn fault(f: Facts) -> u8
+    ensures { λ r. ⌜ r ≡ faultOf f ⌝ }
+{
+    let nine = refusals::unless(agreement_ok(f.settlement), 0, 9);
+    let eight = refusals::unless(limits_ok(f.trade, f.buyer, f.seller), nine, 8);
+    let seven = refusals::unless(times_ok(f.trade, f.request, f.settlement), eight, 7);
+    let six = refusals::unless(counts_ok(f.trade, f.market), seven, 6);
+    let five = refusals::unless(prices_ok(f), six, 5);
+    refusals::unless(codes_ok(f.buyer, f.seller), five, 4)
+}

@@ -1,0 +1,5 @@
+pub mod Walk
+pub mod Reasons
+pub mod Laws
+pub mod Blind
+pub mod Exact

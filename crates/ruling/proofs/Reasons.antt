@@ -1,0 +1,39 @@
+-- Every ruling has the outcome of its reason.
+use Prim.Native.Nat.{ℕ}
+use mathlib.Core.Path.{_≡_, refl, sym, ap, _∙_}
+use mathlib.Core.Bool.{true}
+use mathlib.Core.Logic.{⊎-elim}
+use native.Mathlib.Omega.{arith}
+use borrow.Author.Tests.{ne-eqb}
+use Rattle.wire.specs.Tests.{inRange}
+use Rattle.wire.proofs.Tests.{range-in, range-low, range-high, range-ends}
+use Rattle.ruling.specs.Words.{Facts, Ruling}
+use Rattle.ruling.specs.Reasons.{outcomeNumber, reasonOutcome}
+use Rattle.ruling.specs.Ruling.{rulingOf}
+use Rattle.ruling.proofs.Walk.{each-ruling}
+
+unrelieved : (r : ℕ) → inRange 1 5 r ≡ true → 0 ≡ reasonOutcome r
+unfolding reasonOutcome
+unrelieved r h = simp h
+
+repriced : (r : ℕ) → inRange 6 10 r ≡ true → 1 ≡ reasonOutcome r
+unfolding reasonOutcome
+repriced r h = let k = range-ends 6 10 r h in simp (range-high 1 5 r (k .0), h)
+
+undone : (r : ℕ) → inRange 11 13 r ≡ true → 2 ≡ reasonOutcome r
+unfolding reasonOutcome
+undone r h = let k = range-ends 11 13 r h in simp (range-high 1 5 r (omega arith), range-high 6 10 r (k .0), h)
+
+-- the outcome that a ruling has is that of its reason
+abbrev pub Agrees : Ruling → Type 0
+Agrees r = outcomeNumber (r .outcome) ≡ reasonOutcome (r .reason)
+
+pub reasons-agree : (f : Facts) → Agrees (rulingOf f)
+unfolding reasonOutcome inRange
+reasons-agree f =
+    each-ruling f Agrees (λ r tp h. unrelieved r h) refl (λ r tp h. undone r h)
+    (λ way s r p g. ⊎-elim (λ c. ap reasonOutcome (sym (c .0))) (λ c. let k = range-ends 6 9 r (c .0) in repriced r (range-in 6 10 r (k .0) (omega arith))) (g .cause))
+
+-- the promise of `rule` from its equation
+pub ruled : (f : Facts) (r : Ruling) → r ≡ rulingOf f → (r ≡ rulingOf f) × Agrees r
+ruled f r e = (e, rw e (reasons-agree f))

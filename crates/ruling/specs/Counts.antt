@@ -1,0 +1,34 @@
+-- How many contracts a ruling covers (01, "Contracts").
+use Prim.Native.Nat.{ℕ, _-_}
+use lib.Dec.{ltb}
+use Rattle.wire.specs.Tests.{pick}
+use Rattle.facts.specs.Codes.{contracts}
+use Rattle.ruling.specs.Words.{Contracts, Way, Obvious, Opening, Catastrophic, Cover, UpTo, Every, Counts}
+
+-- at most the size of the quote that gave TP, which may be 0; where an official gave it there is no such limit
+abbrev pub coveredBy : Cover → Contracts → Contracts
+coveredBy (UpTo size) n = pick (ltb (size .0) (n .0)) size n
+coveredBy Every n = n
+
+-- An adjustment on the opening way covers that many; every other covers every contract.
+abbrev pub covered : Way → Cover → Contracts → Contracts
+covered Obvious cover n = n
+covered Opening cover n = coveredBy cover n
+covered Catastrophic cover n = n
+
+-- the rest stand
+abbrev pub restOf : Contracts → Contracts → Contracts
+restOf n taken = contracts (n .0 - taken .0)
+
+-- ---- adjusted, nullified, standing
+abbrev pub counts : Contracts → Contracts → Contracts → Counts
+counts a n s = record { adjusted = a; nullified = n; standing = s }
+
+abbrev pub allStand : Contracts → Counts
+allStand n = counts (contracts 0) (contracts 0) n
+
+abbrev pub allNullified : Contracts → Counts
+allNullified n = counts (contracts 0) n (contracts 0)
+
+abbrev pub someAdjusted : Contracts → Contracts → Counts
+someAdjusted n taken = counts taken (contracts 0) (restOf n taken)

@@ -1,0 +1,6 @@
+pub mod Words
+pub mod Counts
+pub mod Ruling
+pub mod Reasons
+pub mod Laws
+pub mod Tested

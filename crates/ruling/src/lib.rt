@@ -1,0 +1,274 @@
+// The ruling on a case: the steps of document 01 joined, from facts to outcome, reason, price and counts.
+// Refuses nothing: facts that were not accepted have a ruling too, and nobody asks for it.
+// Contracts are compared and subtracted here and nowhere else.
+ghost use mathlib.Core.Path.{_≡_};
+ghost use Rattle.ruling.specs.Reasons.{reasonOutcome, outcomeNumber};
+ghost use Rattle.ruling.specs.Counts.{coveredBy, covered, restOf};
+ghost use Rattle.ruling.specs.Ruling.{noRelief, waiting, nullified, adjusted, carriedOut, settled, ruledAt, ruledOn, ruledBy, rulingOf};
+use act::Act;
+use agreement::Heeded;
+use facts::Contracts;
+use facts::Facts;
+use facts::Mills;
+use facts::Price;
+use facts::Trade;
+use theory::Cover;
+use theory::Source;
+use theory::Theory;
+use way::Open;
+use way::Way;
+
+// How many contracts are adjusted, nullified and left standing.
+pub struct Counts {
+    pub adjusted: Contracts,
+    pub nullified: Contracts,
+    pub standing: Contracts,
+}
+
+pub struct Repricing {
+    pub price: Mills,
+    pub counts: Counts,
+}
+
+pub enum Outcome {
+    NoRelief(Counts),
+    Adjusted(Repricing),
+    Nullified(Counts),
+    Waiting(Counts),
+}
+
+pub struct Ruling {
+    pub trade: u32,
+    pub outcome: Outcome,
+    pub reason: u8,
+    pub tp: Price,
+}
+
+// ---- the outcome of a reason
+
+// 0 no relief, 1 adjusted, 2 nullified, 3 waiting; 255 for a number that is no reason.
+pub fn outcome_of(reason: u8) -> u8
+    ensures { λ r. ⌜ r ≡ reasonOutcome reason ⌝ }
+{
+    match reason {
+        1..=5 => 0,
+        6..=10 => 1,
+        11..=13 => 2,
+        14 => 3,
+        _ => 255,
+    }
+}
+
+// ---- contracts
+
+fn covered_by(cover: Cover, contracts: Contracts) -> Contracts
+    ensures { λ r. ⌜ r ≡ coveredBy cover contracts ⌝ }
+{
+    match cover {
+        Cover::UpTo(size) => {
+            if size.0 < contracts.0 {
+                return size;
+            }
+            contracts
+        }
+        Cover::Every => contracts,
+    }
+}
+
+fn cover_on(way: Way, cover: Cover, contracts: Contracts) -> Contracts
+    ensures { λ r. ⌜ r ≡ covered way cover contracts ⌝ }
+{
+    match way {
+        Way::Obvious => contracts,
+        Way::Opening => covered_by(cover, contracts),
+        Way::Catastrophic => contracts,
+    }
+}
+
+fn rest_of(contracts: Contracts, taken: Contracts) -> Contracts
+    ensures { λ r. ⌜ r ≡ restOf contracts taken ⌝ }
+{
+    if contracts.0 < taken.0 {
+        return Contracts(0);
+    }
+    Contracts(contracts.0 - taken.0)
+}
+
+// ---- the four outcomes
+
+fn no_relief(trade: Trade, reason: u8, tp: Price) -> Ruling
+    ensures { λ r. ⌜ r ≡ noRelief trade reason tp ⌝ }
+{
+    let contracts = trade.contracts;
+    Ruling {
+        trade: trade.number,
+        outcome: Outcome::NoRelief(Counts {
+            adjusted: Contracts(0),
+            nullified: Contracts(0),
+            standing: contracts,
+        }),
+        reason: reason,
+        tp: tp,
+    }
+}
+
+fn wait(trade: Trade) -> Ruling
+    ensures { λ r. ⌜ r ≡ waiting trade ⌝ }
+{
+    let contracts = trade.contracts;
+    Ruling {
+        trade: trade.number,
+        outcome: Outcome::Waiting(Counts {
+            adjusted: Contracts(0),
+            nullified: Contracts(0),
+            standing: contracts,
+        }),
+        reason: 14,
+        tp: Price::None,
+    }
+}
+
+fn nullify(trade: Trade, reason: u8, tp: Mills) -> Ruling
+    ensures { λ r. ⌜ r ≡ nullified trade reason tp ⌝ }
+{
+    let contracts = trade.contracts;
+    Ruling {
+        trade: trade.number,
+        outcome: Outcome::Nullified(Counts {
+            adjusted: Contracts(0),
+            nullified: contracts,
+            standing: Contracts(0),
+        }),
+        reason: reason,
+        tp: Price::At(tp),
+    }
+}
+
+fn adjust(trade: Trade, way: Way, source: Source, reason: u8, price: Mills) -> Ruling
+    ensures { λ r. ⌜ r ≡ adjusted trade way source reason price ⌝ }
+{
+    let contracts = trade.contracts;
+    let cover = source.cover;
+    let tp = source.price;
+    let taken = cover_on(way, cover, contracts);
+    let rest = rest_of(contracts, taken);
+    Ruling {
+        trade: trade.number,
+        outcome: Outcome::Adjusted(Repricing {
+            price: price,
+            counts: Counts {
+                adjusted: taken,
+                nullified: Contracts(0),
+                standing: rest,
+            },
+        }),
+        reason: reason,
+        tp: Price::At(tp),
+    }
+}
+
+// ---- the steps
+
+fn carry_out(trade: Trade, way: Way, source: Source, act: Act) -> Ruling
+    ensures { λ r. ⌜ r ≡ carriedOut trade way source act ⌝ }
+{
+    let tp = source.price;
+    match act {
+        Act::Adjust(change) => {
+            let price = change.price;
+            adjust(trade, way, source, change.reason, price)
+        }
+        Act::Nullify(reason) => nullify(trade, reason, tp),
+        Act::Leave(reason) => no_relief(trade, reason, Price::At(tp)),
+    }
+}
+
+// Agreement, then the act.
+fn settle(f: Facts, way: Way, source: Source, heeded: Heeded) -> Ruling
+    ensures { λ r. ⌜ r ≡ settled f way source heeded ⌝ }
+{
+    let trade = f.trade;
+    let tp = source.price;
+    match heeded {
+        Heeded::Ignored => {
+            let request = f.request;
+            let side = request.side;
+            let settlement = f.settlement;
+            let accepted = settlement.accepted;
+            let told = agreement::accepted_in_time(accepted);
+            let act = act::find_act(way, side, f.buyer, f.seller, told, tp, bands::band_of(tp));
+            carry_out(trade, way, source, act)
+        }
+        Heeded::Repriced(price) => adjust(trade, way, source, 10, price),
+        Heeded::Undone => nullify(trade, 13, tp),
+    }
+}
+
+// The error, then agreement.
+fn rule_at(f: Facts, way: Way, source: Source) -> Ruling
+    ensures { λ r. ⌜ r ≡ ruledAt f way source ⌝ }
+{
+    let trade = f.trade;
+    let execution = trade.price;
+    let request = f.request;
+    let side = request.side;
+    let tp = source.price;
+    let minimum = act::minimum_of(way, bands::band_of(tp));
+    if bands::in_error(side, execution, tp, minimum) {
+        let buyer = f.buyer;
+        let buyer_kind = buyer.kind;
+        let seller = f.seller;
+        let seller_kind = seller.kind;
+        let customer = parties::any_customer(buyer_kind, seller_kind);
+        return settle(f, way, source, agreement::heed(f.settlement, way, customer));
+    }
+    no_relief(trade, 1, Price::At(tp))
+}
+
+// The theoretical price, then the error; where no one gave a price the case waits.
+fn rule_on(f: Facts, way: Way) -> Ruling
+    ensures { λ r. ⌜ r ≡ ruledOn f way ⌝ }
+{
+    let trade = f.trade;
+    let request = f.request;
+    let side = request.side;
+    let found = theory::find_theory(side, f.market);
+    let Theory::Found(source) = found else {
+        return wait(trade);
+    };
+    rule_at(f, way, source)
+}
+
+fn rule_by(f: Facts, way: Way) -> Ruling
+    ensures { λ r. ⌜ r ≡ ruledBy f way ⌝ }
+{
+    match way {
+        Way::Obvious => rule_on(f, way),
+        Way::Opening => rule_on(f, way),
+        Way::Catastrophic => {
+            if f.request.decided {
+                return no_relief(f.trade, 3, Price::None);
+            }
+            rule_on(f, way)
+        }
+    }
+}
+
+// The ruling on these facts: the way first.
+pub fn rule(f: Facts) -> Ruling
+    ensures { λ r. ⌜ (r ≡ rulingOf f) × (outcomeNumber (r .outcome) ≡ reasonOutcome (r .reason)) ⌝ }
+{
+    let trade = f.trade;
+    let executed = trade.executed;
+    let request = f.request;
+    let side = request.side;
+    let buyer = f.buyer;
+    let buyer_kind = buyer.kind;
+    let seller = f.seller;
+    let seller_kind = seller.kind;
+    let kind = parties::kind_in_error(side, buyer_kind, seller_kind);
+    match way::find_way(executed, request, kind) {
+        Open::By(way) => rule_by(f, way),
+        Open::Closed => no_relief(trade, 2, Price::None),
+    }
+}

@@ -1,0 +1,44 @@
+use borrow.Author.Needs.{needs}
+use Rattle.writing.proofs.put_tail.Statement.{statement}
+use Rattle.writing.proofs.put_tail.Tie as tie
+
+price-number-requires : tie.Need-price-number-requires
+price-number-requires c κs = search needs
+
+put-u32-requires : tie.Need-put-u32-requires
+put-u32-requires c κs = search needs
+
+put-u32-requires-2 : tie.Need-put-u32-requires-2
+put-u32-requires-2 c κs = search needs
+
+put-u32-requires-3 : tie.Need-put-u32-requires-3
+put-u32-requires-3 c κs = search needs
+
+moment-number-requires : tie.Need-moment-number-requires
+moment-number-requires c κs = search needs
+
+put-u32-requires-4 : tie.Need-put-u32-requires-4
+put-u32-requires-4 c κs = search needs
+
+put-u32-requires-5 : tie.Need-put-u32-requires-5
+put-u32-requires-5 c κs = search needs
+
+same-length : tie.Need-same-length
+same-length c = search needs
+
+returns : tie.Need-returns
+returns c = cc
+
+pub put-tail-spec : {M : Type 1} → statement M
+put-tail-spec =
+    tie.close
+    (tie.spec
+    price-number-requires
+    put-u32-requires
+    put-u32-requires-2
+    put-u32-requires-3
+    moment-number-requires
+    put-u32-requires-4
+    put-u32-requires-5
+    same-length
+    returns)
