@@ -1,8 +1,8 @@
--- Demand 3 on rulings: nothing of a member's code shows in a ruling, and of its limit only whether the price that is tested
--- against it (01, "Laws", last paragraph: `testedIn`) violates it. The notices and the bytes come with the answer.
-use Prim.Native.Nat.{ℕ}
+-- Demand 3 (01, "Laws the counter relies on"): nothing of a member's code or limit reaches the other party, but for the code where the trade
+-- is repriced or undone, and on which side of the limit the tested price (`testedIn`) lies. On rulings, on the bytes of a case's answer, and on sheets.
+use Prim.Native.Nat.{ℕ, _≤_}
 use mathlib.Core.Path.{_≡_, refl, ap}
-use mathlib.Core.List.{List}
+use mathlib.Core.List.{List, [], _∷_}
 use borrow.Author.Tests.{eqb-false}
 use Rattle.facts.specs.Codes.{priceNumber}
 use Rattle.bands.specs.Table.{bandOf}
@@ -18,6 +18,15 @@ use Rattle.ruling.specs.Words.{Price, Never, Side, Buy, Facts}
 use Rattle.ruling.specs.Ruling.{ruledAt, ruledOn, ruledBy, rulingOf}
 use Rattle.ruling.specs.Tested.{testedIn, alteredFacts}
 use Rattle.ruling.proofs.Blind as blind
+use Rattle.record.specs.Record.{factsOf}
+use Rattle.cases.specs.Cases.{readingOf}
+use Rattle.answer.specs.Answer.{answerOf, caseOf}
+use Rattle.answer.specs.Blind as Bytes
+use Rattle.answer.specs.Blind.{codeIn, AlikeBut, Blind}
+use Rattle.answer.proofs.Blind as answer
+use Rattle.sheet.specs.Sheet.{caseAt}
+use Rattle.sheet.specs.Blind.{AlikeButOne, OnlyCase}
+use Rattle.sheet.proofs.Blind as sheet
 use Rattle.demands.specs.Edges.{at, toCustomer}
 
 -- the price that is tested, if any, is within both limits or outside both
@@ -44,3 +53,25 @@ pair-differs e = eqb-false 6600 6500 refl (ap (λ (f : Facts). priceNumber (f .b
 pub told-pair : (rulingOf (alteredFacts stopped Buy (stopped .buyer .code) (at 8000)) .reason ≡ 8) × (rulingOf stopped .reason ≡ 12)
 unfolding bandOf inError movedBy wayOf obviousOpen openingOpen catastrophicOpen theoryOf heededOf inTime catastrophicStopped catastrophicAct actOf ruledAt ruledOn ruledBy rulingOf
 told-pair = (refl, refl)
+
+-- ---- in bytes
+
+-- For two accepted cases alike but for one party's member code and limit (bytes 48 to 55, or 56 to 63), where the tested price does not tell the
+-- limits apart: the 32 bytes of the ruling are the same; the other party's notice is the same but for its bytes 24 to 27; and these are the code
+-- exactly when the outcome is 1 or 2, and zeros otherwise (`Blind`).
+pub blind-cases : (who : Side) (s t : List ℕ) (room room' : ℕ) → readingOf s .refusal ≡ 0 → readingOf t .refusal ≡ 0 → 96 ≤ room → 96 ≤ room'
+    → AlikeBut who s t → Bytes.Untold who s t → Blind who s t (caseOf s room .1) (caseOf t room' .1)
+blind-cases = answer.blind-cases
+
+-- A code is never four zeros, so whether it shows can be told from the notice.
+pub code-seen : (who : Side) (s : List ℕ) → readingOf s .refusal ≡ 0 → codeIn who s ≡ 0 ∷ 0 ∷ 0 ∷ 0 ∷ [] → ⊥
+code-seen = answer.code-seen
+
+-- ---- on sheets
+
+-- Where two such cases stand at place j in sheets otherwise equal: the bytes before the case's answer and after it are the same, the counts are
+-- the same, and of the case's own 96 bytes only those of its two notices can differ, as said above.
+pub blind-sheets : (who : Side) (s t : List ℕ) (n j : ℕ) → AlikeButOne s t n j → AlikeBut who (caseAt s j) (caseAt t j)
+    → Bytes.Untold who (caseAt s j) (caseAt t j)
+    → OnlyCase s t n j × Blind who (caseAt s j) (caseAt t j) (answerOf (factsOf (caseAt s j))) (answerOf (factsOf (caseAt t j)))
+blind-sheets who s t n j a same untold = (sheet.only-case s t n j a, answer.blind who (caseAt s j) (caseAt t j) same untold)

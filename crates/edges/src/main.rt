@@ -1,134 +1,16 @@
 // Records brought to the desk, good and damaged, and what they get: run and compared with `stdout`, which was
 // worked out by hand from document 01 (see docs/RULEBOOK.md). Each line names the record and gives its number, 0 where it is accepted.
-ghost use mathlib.Core.Path.{_≡_};
-ghost use lib.ListN.{length};
 use facts::Contracts;
 use facts::Facts;
 use facts::Mills;
 use facts::Trade;
 use libc::STDOUT_FILENO;
+use specimen::byte;
+use specimen::good;
+use specimen::word;
 
 // The mark "none".
 const NONE: u32 = 4294967295;
-
-// ---- the records
-
-// Trade 7: a Market Maker bought 10 at 2.000 from another at 9:30:00 (34,200), the market 1.400 for 20 to 1.500 for 30;
-// filed 120 s later. No limits, no agreement, no official's price. A row here is a row of 01's table.
-fn good() -> [u8; 88]
-    ensures { λ r. ⌜ length r ≡ 88 ⌝ }
-{
-    [
-        88,
-        0,
-        1,
-        0, // length, kind
-        7,
-        0,
-        0,
-        0, // trade number
-        208,
-        7,
-        0,
-        0, // execution price
-        10,
-        0,
-        0,
-        0, // contracts
-        152,
-        133,
-        0,
-        0, // execution time
-        120,
-        5,
-        0,
-        0, // best bid
-        220,
-        5,
-        0,
-        0, // best offer
-        20,
-        0,
-        0,
-        0, // bid size
-        30,
-        0,
-        0,
-        0, // offer size
-        0,
-        0,
-        0,
-        0, // zero
-        255,
-        255,
-        255,
-        255, // official's price
-        1,
-        0,
-        0,
-        0, // side, opening, expiry deadline, panel
-        65,
-        66,
-        49,
-        50, // buyer's code
-        255,
-        255,
-        255,
-        255, // and limit
-        90,
-        88,
-        57,
-        48, // seller's code
-        255,
-        255,
-        255,
-        255, // and limit
-        2,
-        2,
-        0,
-        0, // kinds, filing day, agreement
-        255,
-        255,
-        255,
-        255, // agreed price
-        16,
-        134,
-        0,
-        0, // filing time
-        0,
-        0,
-        0,
-        0, // agreement made
-        255,
-        255,
-        255,
-        255, // acceptance
-        0,
-        0,
-        0,
-        0, // zero
-    ]
-}
-
-// The record with one byte changed.
-fn byte(case: [u8; 88], at: u8, b: u8) -> [u8; 88] {
-    let mut changed = case;
-    let i = at as usize;
-    if i < 88 {
-        changed[i] = b;
-    }
-    changed
-}
-
-// The record with a four-byte number changed.
-fn word(case: [u8; 88], at: u8, n: u32) -> [u8; 88] {
-    let mut changed = case;
-    let i = at as usize;
-    if i < 85 {
-        wire::put_u32(&mut changed, i, n);
-    }
-    changed
-}
 
 // Facts that no reading gives: the good record's with another execution price and number of contracts.
 fn facts_with(price: Mills, contracts: Contracts) -> Facts {

@@ -107,8 +107,11 @@ agreementOk ToNullify (At m) made = false
 agreementOk ToNullify None made = true
 
 -- ---- the tests in their order: those on the bytes, those on the facts
+abbrev pub byteTests : List ℕ → List (ℕ × Bool)
+byteTests s = (2, headOk s) ∷ (3, zerosOk s && listsOk s) ∷ []
+
 abbrev pub formTests : List ℕ → List (ℕ × Bool)
-formTests s = (1, lengthOk s) ∷ (2, headOk s) ∷ (3, zerosOk s && listsOk s) ∷ []
+formTests s = (1, lengthOk s) ∷ byteTests s
 
 abbrev pub factTests : Facts → List (ℕ × Bool)
 factTests f =

@@ -1,8 +1,6 @@
 -- One walk over the steps: what holds of each form of a ruling, on the grounds that lead to it, holds of every ruling.
-use Prim.Native.Nat.{ℕ, _≤_}
-use native.Mathlib.Omega.{arith}
-use lib.Dec.{T, leb, leb→le}
-use Rattle.wire.proofs.Tests.{range-in, range-ends}
+use Prim.Native.Nat.{ℕ}
+use Rattle.wire.proofs.Tests.{range-wider}
 use mathlib.Core.Path.{_≡_, refl, sym, _∙_}
 use mathlib.Core.Bool.{Bool, true, false}
 use mathlib.Core.Logic.{_⊎_, inl, inr}
@@ -42,11 +40,6 @@ pub record Grounds (f : Facts) (way : Way) (s : Source) (reason : ℕ) (price : 
   pub error : InError f way s
   pub cause : ((reason ≡ 10) × (heededAt f way ≡ Repriced price)) ⊎ ((inRange 6 9 reason ≡ true) × (actAt f way s ≡ Adjust (record { reason = reason; price = price })))
 
--- a reason in a range is in any wider one
-wider : (lo hi lo' hi' r : ℕ) → T (leb lo' lo) → T (leb hi hi') → inRange lo hi r ≡ true → inRange lo' hi' r ≡ true
-wider lo hi lo' hi' r l h e =
-    let k = range-ends lo hi r e in range-in lo' hi' r (omega (arith, leb→le lo' lo l)) (omega (arith, leb→le hi hi' h))
-
 module _ (f : Facts) (P : Ruling → Type 0)
     (none : (r : ℕ) (tp : Price) → inRange 1 5 r ≡ true → P (noRelief (f .trade) r tp))
     (wait : P (waiting (f .trade)))
@@ -55,8 +48,8 @@ module _ (f : Facts) (P : Ruling → Type 0)
   module _ (way : Way) (s : Source) (found : theoryOf (f .request .side) (f .market) ≡ Found s) (error : InError f way s) where
     on-act : (a : Act) → actAt f way s ≡ a → fits (actOutcome a) (actReason a) ≡ true → P (carriedOut (f .trade) way s a)
     on-act (Adjust c) e h = priced way s (c .reason) (c .price) (record { found = found; error = error; cause = inr (h, e) })
-    on-act (Nullify r) e h = undone r (s .price) (wider 11 12 11 13 r tt tt h)
-    on-act (Leave r) e h = none r (At (s .price)) (wider 4 5 1 5 r tt tt h)
+    on-act (Nullify r) e h = undone r (s .price) (range-wider 11 12 11 13 r tt tt h)
+    on-act (Leave r) e h = none r (At (s .price)) (range-wider 4 5 1 5 r tt tt h)
 
     on-agreement : (h : Heeded) → heededAt f way ≡ h → P (settled f way s h)
     unfolding inRange

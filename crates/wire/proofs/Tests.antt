@@ -47,6 +47,11 @@ unfolding inRange
 range-ends lo hi n h =
     let e = both-true (leb lo n) (leb n hi) h in (leb-true lo n (e .0), leb-true n hi (e .1))
 
+-- a number in a range is in any wider one
+pub range-wider : (lo hi lo' hi' n : ℕ) → T (leb lo' lo) → T (leb hi hi') → inRange lo hi n ≡ true → inRange lo' hi' n ≡ true
+range-wider lo hi lo' hi' n l h e =
+    let k = range-ends lo hi n e in range-in lo' hi' n (omega (arith, leb→le lo' lo l)) (omega (arith, leb→le hi hi' h))
+
 -- P at each of lo, lo + 1, .. up to lo + n
 abbrev pub Each : (ℕ → Type 0) → ℕ → ℕ → Type 0
 Each P zero lo = P lo

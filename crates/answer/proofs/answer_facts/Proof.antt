@@ -1,0 +1,20 @@
+use Rattle.answer.specs.Answer.{answerOf}
+use borrow.Author.Needs.{needs}
+use Rattle.answer.proofs.answer_facts.Statement.{statement}
+use Rattle.answer.proofs.answer_facts.Tie as tie
+
+rule-requires : tie.Need-rule-requires
+rule-requires c κs = search needs
+
+put-answer-requires : tie.Need-put-answer-requires
+put-answer-requires c κs = search needs
+
+same-length : tie.Need-same-length
+same-length c = search needs
+
+returns : tie.Need-returns
+unfolding answerOf
+returns c = cc
+
+pub answer-facts-spec : {M : Type 1} → statement M
+answer-facts-spec = tie.close (tie.spec rule-requires put-answer-requires same-length returns)

@@ -1,0 +1,43 @@
+use Rattle.wire.proofs.Laid.{laid-none, ends}
+use Rattle.answer.proofs.Cases.{case-length, case-room, case-refused, case-ruled}
+use borrow.Author.Needs.{needs}
+use Rattle.answer.proofs.rule_case.Statement.{statement}
+use Rattle.answer.proofs.rule_case.Tie as tie
+
+returns : tie.Need-returns
+returns c = ends _ _ _ (case-length _ _ (c .if1 .taken)) (laid-none _)
+
+returns-2 : tie.Need-returns-2
+returns-2 c = ends _ _ _ (case-room _ _ (c .before .if1 .left) (c .if2 .taken)) (laid-none _)
+
+read-case-requires : tie.Need-read-case-requires
+read-case-requires c κs = search needs
+
+returns-3 : tie.Need-returns-3
+returns-3 c = let r = c .before .before in
+    let room = r .before in
+    ends _ _ _ (case-refused _ _ (room .before .if1 .left) (room .if2 .left) _ (r .read-case .ensures) (c .if3 .taken)) (laid-none _)
+
+answer-facts-requires : tie.Need-answer-facts-requires
+answer-facts-requires c κs = search needs
+
+same-length : tie.Need-same-length
+same-length c = search needs
+
+returns-4 : tie.Need-returns-4
+returns-4 c = let put = c .before .before in
+    let r = put .before .before .before .before in
+    let room = r .before in
+    ends _ _ _ (case-ruled _ _ (room .before .if1 .left) (room .if2 .left) _ (r .read-case .ensures) (put .before .before .if3 .left)) (put .answer-facts .ensures)
+
+pub rule-case-spec : {M : Type 1} → statement M
+rule-case-spec =
+    tie.close
+    (tie.spec
+    returns
+    returns-2
+    read-case-requires
+    returns-3
+    answer-facts-requires
+    same-length
+    returns-4)

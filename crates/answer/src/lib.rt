@@ -1,0 +1,38 @@
+// One case ruled: the ruling and its two notices in a lent buffer, or the number of the first test that the case fails.
+// Refused with 1, 11 and 2 to 9, in that order; a refused case leaves the buffer as it was.
+ghost use mathlib.Core.Path.{_≡_};
+ghost use Prim.Native.Nat.{_≤_};
+ghost use lib.ListN.{length};
+ghost use Rattle.wire.specs.Laid.{laid};
+ghost use Rattle.answer.specs.Answer.{answerOf, caseOf};
+use facts::Facts;
+
+// Rules these facts and writes the 96 bytes over the start of the buffer; every byte after them stays.
+pub fn answer_facts(out: &mut [u8], f: Facts)
+    requires { ⌜ 96 ≤ length (now out) ⌝ }
+    ensures { λ _. ⌜ now (out .exit) ≡ laid (answerOf f) (now (out .entry)) ⌝ }
+{
+    let buyer = f.buyer;
+    let bought = buyer.code;
+    let seller = f.seller;
+    let sold = seller.code;
+    notices::put_answer(out, ruling::rule(f), bought, sold);
+}
+
+// Rules a case: tests 1, 11, then 2 to 9. Answers the number, 0 where the 96 bytes are written.
+pub fn rule_case(case: &[u8], out: &mut [u8]) -> u8
+    ensures { λ r. ⌜ (r ≡ caseOf (now (case .entry)) (length (now (out .entry))) .0) × (now (out .exit) ≡ laid (caseOf (now (case .entry)) (length (now (out .entry))) .1) (now (out .entry))) ⌝ }
+{
+    if case.len() != 88 {
+        return 1;
+    }
+    if out.len() < 96 {
+        return 11;
+    }
+    let reading = cases::read_case(case);
+    if reading.refusal != 0 {
+        return reading.refusal;
+    }
+    answer_facts(out, reading.facts);
+    0
+}

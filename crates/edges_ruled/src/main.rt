@@ -1,0 +1,342 @@
+// Cases and sheets brought to the desk, and what goes out: run and compared with `stdout`, which was worked out by hand from
+// document 01. A ruled case's line gives its number (0), outcome, reason, TP, new price, and the contracts adjusted, nullified and
+// standing; 4294967295 is none. The record that each starts from is `specimen`'s.
+use libc::STDOUT_FILENO;
+use specimen::byte;
+use specimen::good;
+use specimen::word;
+
+// The mark "none".
+const NONE: u32 = 4294967295;
+
+// ---- what is printed
+
+fn say(text: &[u8]) {
+    io::write_all(STDOUT_FILENO, text);
+}
+
+fn say_number(before: &[u8], n: u64) {
+    say(before);
+    io::print_decimal(STDOUT_FILENO, n);
+}
+
+fn wide(b: u8) -> u64 {
+    b as u64
+}
+
+fn say_u8(answer: &[u8], at: usize) {
+    if at < answer.len() {
+        say_number(b" ", wide(answer[at]));
+    }
+}
+
+fn say_u32(answer: &[u8], at: usize) {
+    if at < 93 {
+        if 96 <= answer.len() {
+            say_number(b" ", wire::read_u32(answer, at) as u64);
+        }
+    }
+}
+
+fn say_hex(bytes: &[u8], from: usize, to: usize) {
+    let mut i = from;
+    while i < to {
+        if i < bytes.len() {
+            io::print_hex(STDOUT_FILENO, wide(bytes[i]), 2);
+        }
+        i += 1;
+    }
+    say(b"\n");
+}
+
+// The ruling's fields, from the answer's first 32 bytes.
+fn say_ruling(answer: &[u8]) {
+    say_u8(answer, 8);
+    say_u8(answer, 9);
+    say_u32(answer, 12);
+    say_u32(answer, 16);
+    say_u32(answer, 20);
+    say_u32(answer, 24);
+    say_u32(answer, 28);
+}
+
+fn say_untouched(out: &[u8], fresh: &[u8]) {
+    if check::same(out, fresh) {
+        say(b", untouched");
+    }
+}
+
+// ---- a case
+
+fn ruled(name: &[u8], case: [u8; 88]) {
+    let mut out = [0u8; 96];
+    let n = answer::rule_case(&case, &mut out);
+    say(name);
+    say_number(b": ", wide(n));
+    if n == 0 {
+        say_ruling(&out);
+    }
+    say(b"\n");
+}
+
+// The whole answer: the ruling, the buyer's notice, the seller's notice.
+fn spelled(name: &[u8], case: [u8; 88]) {
+    let mut out = [0u8; 96];
+    say_number(name, wide(answer::rule_case(&case, &mut out)));
+    say(b"\n");
+    say_hex(&out, 0, 32);
+    say_hex(&out, 32, 64);
+    say_hex(&out, 64, 96);
+}
+
+// A case that is refused, and the buffer afterwards.
+fn refused(name: &[u8], case: &[u8], out: &mut [u8], fresh: &[u8]) {
+    say_number(name, wide(answer::rule_case(case, out)));
+    say_untouched(out, fresh);
+    say(b"\n");
+}
+
+fn days() {
+    ruled(b"good", good());
+    ruled(b"day 1 at 30600", byte(word(good(), 72, 30600), 66, 1));
+    ruled(b"day 1 at 30601", byte(word(good(), 72, 30601), 66, 1));
+    ruled(b"day 2", byte(good(), 66, 2));
+    ruled(b"a Market Maker after 300 s", word(good(), 72, 34500));
+    ruled(b"a Market Maker after 301 s", word(good(), 72, 34501));
+}
+
+fn deadlines() {
+    ruled(
+        b"expiry deadline, day 0 at 61200",
+        byte(word(good(), 72, 61200), 46, 1),
+    );
+    ruled(
+        b"expiry deadline, day 0 at 61201",
+        byte(word(good(), 72, 61201), 46, 1),
+    );
+    ruled(
+        b"no expiry deadline, day 0 at 86399",
+        word(good(), 72, 86399),
+    );
+    ruled(
+        b"expiry deadline, day 1 at 0",
+        byte(byte(word(good(), 72, 0), 66, 1), 46, 1),
+    );
+}
+
+fn panels() {
+    let late = word(good(), 72, 36000);
+    ruled(b"panel decided, obvious way", byte(good(), 47, 1));
+    ruled(b"panel decided, catastrophic way", byte(late, 47, 1));
+    ruled(
+        b"panel decided, no price",
+        byte(word(word(late, 24, NONE), 32, 0), 47, 1),
+    );
+}
+
+fn prices() {
+    let bare = word(word(good(), 24, NONE), 32, 0);
+    ruled(b"no offer, official 1500", word(bare, 40, 1500));
+    ruled(b"no offer, no official", bare);
+    ruled(b"a sell above the bid", byte(good(), 44, 2));
+    ruled(b"a buy far below the offer", word(good(), 8, 100));
+    ruled(b"a Customer buys", byte(good(), 64, 1));
+}
+
+// A Customer buys on the opening, 1,201 s ago.
+fn opening() -> [u8; 88] {
+    byte(byte(word(good(), 72, 35401), 45, 1), 64, 1)
+}
+
+fn openings() {
+    ruled(b"opening", opening());
+    ruled(b"opening, 50 contracts", word(opening(), 12, 50));
+    ruled(
+        b"opening, official 1500, 50 contracts",
+        word(
+            word(word(word(opening(), 24, NONE), 32, 0), 40, 1500),
+            12,
+            50,
+        ),
+    );
+    ruled(
+        b"opening, offer of zero for none",
+        word(word(opening(), 24, 0), 32, 0),
+    );
+    ruled(b"opening after 1200 s", word(opening(), 72, 35400));
+}
+
+fn more_openings() {
+    ruled(b"opening at 59400", word(opening(), 72, 59400));
+    ruled(b"opening at 59401", word(opening(), 72, 59401));
+    ruled(
+        b"opening, other party's limit 1600",
+        byte(word(opening(), 60, 1600), 65, 3),
+    );
+    ruled(
+        b"opening, other party's limit 1500",
+        byte(word(opening(), 60, 1500), 65, 3),
+    );
+    ruled(
+        b"opening, a Market Maker's limit 1600",
+        word(opening(), 60, 1600),
+    );
+}
+
+// Agreed on 1.700 after so many seconds.
+fn agreed(case: [u8; 88], after: u32) -> [u8; 88] {
+    byte(word(word(case, 68, 1700), 76, after), 67, 1)
+}
+
+fn agreements() {
+    ruled(b"agreed on 1700 after 600 s", agreed(good(), 600));
+    ruled(b"agreed on 1700 after 601 s", agreed(good(), 601));
+    ruled(
+        b"a Customer agreed after 1800 s",
+        agreed(byte(good(), 64, 1), 1800),
+    );
+    ruled(
+        b"a Customer agreed after 1801 s",
+        agreed(byte(good(), 64, 1), 1801),
+    );
+    ruled(b"agreed to nullify, no Customer", byte(good(), 67, 2));
+    ruled(
+        b"agreed to nullify on the opening way",
+        byte(opening(), 67, 2),
+    );
+}
+
+// Bought at 3.000, 1,800 s ago: the catastrophic way, new price 2.500.
+fn absurd() -> [u8; 88] {
+    word(word(good(), 8, 3000), 72, 36000)
+}
+
+fn catastrophes() {
+    ruled(
+        b"a Customer agreed to nullify, catastrophic way",
+        byte(byte(absurd(), 64, 1), 67, 2),
+    );
+    ruled(
+        b"a selling Market Maker's limit 2800",
+        word(absurd(), 60, 2800),
+    );
+    ruled(
+        b"a selling Customer's limit 2800",
+        byte(word(absurd(), 60, 2800), 65, 1),
+    );
+    ruled(
+        b"a selling Customer's limit 2500",
+        byte(word(absurd(), 60, 2500), 65, 1),
+    );
+    ruled(
+        b"accepted after 1800 s",
+        word(byte(word(absurd(), 60, 2800), 65, 1), 80, 1800),
+    );
+    ruled(
+        b"accepted after 1801 s",
+        word(byte(word(absurd(), 60, 2800), 65, 1), 80, 1801),
+    );
+}
+
+fn answers() {
+    spelled(b"adjusted: ", good());
+    spelled(b"no relief: ", byte(good(), 66, 2));
+    spelled(b"nullified: ", byte(good(), 64, 1));
+    spelled(b"waiting: ", word(word(good(), 24, NONE), 32, 0));
+}
+
+fn into_95(name: &[u8], case: &[u8]) {
+    let fresh = [238u8; 95];
+    let mut out = [238u8; 95];
+    refused(name, case, &mut out, &fresh);
+}
+
+fn into_96(name: &[u8], case: &[u8]) {
+    let fresh = [238u8; 96];
+    let mut out = [238u8; 96];
+    refused(name, case, &mut out, &fresh);
+}
+
+fn refusals() {
+    let case = good();
+    let other = byte(good(), 2, 2);
+    into_96(b"kind 2 into 96: ", &other);
+    into_95(b"kind 2 into 95: ", &other);
+    into_95(b"good into 95: ", &case);
+    into_95(b"87 bytes into 95: ", &case[0..87]);
+}
+
+// ---- a sheet
+
+// The number, then bytes written, ruled and refused.
+fn say_sheet(name: &[u8], sheet: &[u8], out: &mut [u8]) {
+    let r = sheet::rule_sheet(sheet, out);
+    say(name);
+    say_number(b": ", wide(r.refusal));
+    say_number(b" ", r.written as u64);
+    say_number(b" ", r.ruled as u64);
+    say_number(b" ", r.refused as u64);
+    say(b"\n");
+}
+
+fn place(case: [u8; 88], sheet: &mut [u8], at: usize) {
+    if 88 <= sheet.len() {
+        if at <= sheet.len() - 88 {
+            bytes::copy(&case, &mut sheet[at..]);
+        }
+    }
+}
+
+// Good, one without contracts, good.
+fn place_three(sheet: &mut [u8]) {
+    place(good(), sheet, 0);
+    place(word(good(), 12, 0), sheet, 88);
+    place(good(), sheet, 176);
+}
+
+fn short_sheets(sheet: &[u8], out: &mut [u8]) {
+    if sheet.len() == 264 {
+        say_sheet(b"no case", &sheet[0..0], out);
+        say_sheet(b"three cases, the last cut", &sheet[0..263], out);
+    }
+}
+
+fn whole_sheet(sheet: &[u8], out: &mut [u8]) {
+    say_sheet(b"three cases", sheet, out);
+    say_hex(out, 96, 108);
+    say_hex(out, 200, 208);
+}
+
+fn sheets() {
+    let mut sheet = [0u8; 264];
+    let mut short = [238u8; 287];
+    let mut out = [238u8; 288];
+    place_three(&mut sheet);
+    short_sheets(&sheet, &mut out);
+    say_sheet(b"three cases into 287", &sheet, &mut short);
+    whole_sheet(&sheet, &mut out);
+}
+
+fn large_sheets() {
+    let sheet = [0u8; 52888];
+    let mut out = [0u8; 57696];
+    let mut short = [0u8; 57599];
+    say_sheet(b"601 cases", &sheet, &mut out);
+    say_sheet(b"600 cases", &sheet[0..52800], &mut out);
+    say_sheet(b"600 cases into 57599", &sheet[0..52800], &mut short);
+}
+
+fn main() {
+    days();
+    deadlines();
+    panels();
+    prices();
+    openings();
+    more_openings();
+    agreements();
+    catastrophes();
+    answers();
+    refusals();
+    sheets();
+    large_sheets();
+}

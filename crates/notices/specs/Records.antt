@@ -1,0 +1,91 @@
+-- What goes out (01): the ruling record and the two notices, 32 bytes each, a row of the page to a line.
+use Prim.Native.Nat.{ℕ}
+use mathlib.Core.Bool.{Bool}
+use mathlib.Core.List.{List, [], _∷_, _++_}
+use Rattle.wire.specs.Numbers.{bytes, elements}
+use Rattle.wire.specs.Tests.{pick, inRange}
+use Rattle.facts.specs.Codes.{priceNumber, sideNumber}
+use Rattle.ruling.specs.Reasons.{outcomeNumber, newPrice, countsOf}
+use Rattle.notices.specs.Words.{Side, Buy, Sell, Ruling, Figures}
+
+-- A ruling in the page's numbers: the outcome 0 no relief, 1 adjusted, 2 nullified, 3 waiting; TP or none; the new price, none
+-- unless adjusted; the contracts adjusted, nullified and standing.
+abbrev pub figuresOf : Ruling → Figures
+figuresOf r =
+    record {
+      trade = r .trade;
+      outcome = outcomeNumber (r .outcome);
+      reason = r .reason;
+      tp = priceNumber (r .tp);
+      price = priceNumber (newPrice (r .outcome));
+      adjusted = countsOf (r .outcome) .adjusted .0;
+      nullified = countsOf (r .outcome) .nullified .0;
+      standing = countsOf (r .outcome) .standing .0;
+    }
+
+-- ---- how both records begin; at 10 each has a byte of its own
+abbrev pub headBytes : ℕ → Figures → ℕ → List ℕ
+headBytes kind n own =
+    -- 0 length 32
+    bytes 2 32
+    -- 2 kind
+    ++ bytes 2 kind
+    -- 4 trade number
+    ++ bytes 4 (n .trade)
+    -- 8 outcome; 9 reason; 10 the own byte; 11 zero
+    ++ (n .outcome ∷ n .reason ∷ own ∷ 0 ∷ [])
+
+-- ---- the ruling record, kind 16; 10 zero
+abbrev pub ruledBytes : Figures → List ℕ
+ruledBytes n =
+    -- 12 TP, or none
+    bytes 4 (n .tp)
+    -- 16 new price, none unless adjusted
+    ++ bytes 4 (n .price)
+    -- 20 contracts adjusted
+    ++ bytes 4 (n .adjusted)
+    -- 24 contracts nullified
+    ++ bytes 4 (n .nullified)
+    -- 28 contracts standing
+    ++ bytes 4 (n .standing)
+
+unfoldable pub rulingRecord : Figures → List ℕ
+rulingRecord n = headBytes 16 n 0 ++ ruledBytes n
+
+abbrev pub rulingBytes : Ruling → List ℕ
+rulingBytes r = rulingRecord (figuresOf r)
+
+-- ---- a notice, kind 17; 10 recipient (1 buyer, 2 seller)
+abbrev pub toldBytes : Figures → List ℕ
+toldBytes n =
+    -- 12 new price, none unless adjusted
+    bytes 4 (n .price)
+    -- 16 contracts adjusted
+    ++ bytes 4 (n .adjusted)
+    -- 20 contracts nullified
+    ++ bytes 4 (n .nullified)
+
+-- a party learns the other's code where the trade is repriced (1) or undone (2), and nowhere else
+unfoldable pub shows : ℕ → Bool
+shows outcome = inRange 1 2 outcome
+
+unfoldable pub shownCode : ℕ → List ℕ → List ℕ
+shownCode outcome code = pick (shows outcome) code (0 ∷ 0 ∷ 0 ∷ 0 ∷ [])
+
+abbrev pub codeBytes : ℕ → List ℕ → List ℕ → List ℕ
+codeBytes outcome code other =
+    -- 24 the other party's code if the outcome is 1 or 2, else zeros
+    elements 4 (shownCode outcome other) 0
+    -- 28 the recipient's code
+    ++ elements 4 code 0
+
+-- to a recipient, with the recipient's code and the other party's
+unfoldable pub noticeRecord : Figures → Side → List ℕ → List ℕ → List ℕ
+noticeRecord n recipient code other = headBytes 17 n (sideNumber recipient) ++ toldBytes n ++ codeBytes (n .outcome) code other
+
+abbrev pub noticeBytes : Ruling → Side → List ℕ → List ℕ → List ℕ
+noticeBytes r recipient code other = noticeRecord (figuresOf r) recipient code other
+
+-- ---- an answer, 96 bytes: the ruling record, the buyer's notice, the seller's notice
+unfoldable pub answerBytes : Ruling → List ℕ → List ℕ → List ℕ
+answerBytes r buyer seller = rulingBytes r ++ noticeBytes r Buy buyer seller ++ noticeBytes r Sell seller buyer

@@ -1,0 +1,63 @@
+-- What a case adds to a sheet's answer, by the number that reading it gave.
+use Prim.Native.Nat.{ℕ, _≤_}
+use mathlib.Core.Path.{_≡_, refl, sym, ap, _∙_}
+use mathlib.Core.Bool.{Bool, true, false}
+use mathlib.Core.List.{List}
+use native.Mathlib.Omega.{arith}
+use lib.ListN.{length}
+use lib.Dec.{eqb}
+use mathlib.Core.Logic.{_⊎_, inl, inr, ⊎-elim}
+use Rattle.wire.specs.Laid.{laid}
+use borrow.Author.Tests.{eq-eqb, ne-eqb, eqb-true, eqb-false}
+use Rattle.answer.specs.Answer.{answerOf}
+use Rattle.answer.proofs.Cases.{answer-length}
+use Rattle.sheet.specs.Words.{Reading}
+use Rattle.sheet.specs.Sheet.{refusalBytes, entryBytes, ruledOne}
+
+refusal-length : (k n : ℕ) → length (refusalBytes k n) ≡ 12
+unfolding refusalBytes
+refusal-length k n = refl
+
+module _ (k : ℕ) (r : Reading) where
+  pub entry-ruled : r .refusal ≡ 0 → entryBytes k r ≡ answerOf (r .facts)
+  unfolding entryBytes
+  entry-ruled h = simp (eq-eqb (r .refusal) 0 h)
+
+  pub entry-refused : (r .refusal ≡ 0 → ⊥) → entryBytes k r ≡ refusalBytes k (r .refusal)
+  unfolding entryBytes
+  entry-refused h = simp (ne-eqb (r .refusal) 0 h)
+
+  pub one-ruled : r .refusal ≡ 0 → ruledOne r ≡ 1
+  unfolding ruledOne
+  one-ruled h = simp (eq-eqb (r .refusal) 0 h)
+
+  pub one-refused : (r .refusal ≡ 0 → ⊥) → ruledOne r ≡ 0
+  unfolding ruledOne
+  one-refused h = simp (ne-eqb (r .refusal) 0 h)
+
+  -- an entry has 96 bytes and counts one, or it has 12 and counts none
+  pub entry-length : ((length (entryBytes k r) ≡ 96) × (ruledOne r ≡ 1)) ⊎ ((length (entryBytes k r) ≡ 12) × (ruledOne r ≡ 0))
+  entry-length = by-test (eqb (r .refusal) 0) refl where
+    by-test : (b : Bool) → eqb (r .refusal) 0 ≡ b → ((length (entryBytes k r) ≡ 96) × (ruledOne r ≡ 1)) ⊎ ((length (entryBytes k r) ≡ 12) × (ruledOne r ≡ 0))
+    by-test true e = let h = eqb-true (r .refusal) 0 e in inl (ap length (entry-ruled h) ∙ answer-length (r .facts), one-ruled h)
+    by-test false e = let h = eqb-false (r .refusal) 0 e in inr (ap length (entry-refused h) ∙ refusal-length k (r .refusal), one-refused h)
+
+  pub entry-most : length (entryBytes k r) ≤ 96
+  entry-most = ⊎-elim (λ e. omega arith) (λ e. omega arith) entry-length
+
+  pub one-most : ruledOne r ≤ 1
+  one-most = ⊎-elim (λ e. omega arith) (λ e. omega arith) entry-length
+
+-- ---- the promise of `rule_entry`: r is what reading answered, s what it means
+module _ (k : ℕ) (r s : Reading) (e : r ≡ s) (l m : List ℕ) where
+  abbrev Entered : ℕ → ℕ → Type 0
+  Entered bytes ruled = (bytes ≡ length (entryBytes k s)) × (ruled ≡ ruledOne s) × (m ≡ laid (entryBytes k s) l)
+
+  pub enter-ruled : r .refusal ≡ 0 → m ≡ laid (answerOf (r .facts)) l → Entered 96 1
+  enter-ruled h w =
+      rw (← e) (sym (ap length (entry-ruled k r h) ∙ answer-length (r .facts)), sym (one-ruled k r h), w ∙ ap (λ (x : List ℕ). laid x l) (sym (entry-ruled k r h)))
+
+  pub enter-refused : (r .refusal ≡ 0 → ⊥) → m ≡ laid (refusalBytes k (r .refusal)) l → Entered 12 0
+  enter-refused h w =
+      rw (← e)
+      (sym (ap length (entry-refused k r h) ∙ refusal-length k (r .refusal)), sym (one-refused k r h), w ∙ ap (λ (x : List ℕ). laid x l) (sym (entry-refused k r h)))

@@ -1,0 +1,6 @@
+pub mod Entries
+pub mod Turns
+pub mod Counts
+pub mod Order
+pub mod Blind
+pub mod Exact

@@ -1,0 +1,60 @@
+-- What a sheet answers (01, "What goes out" and "Numbers given back instead of a ruling"). A sheet is a row of cases.
+use Prim.Native.Nat.{ℕ, zero, suc, _+_, _-_, _*_, _/_, _%_}
+use mathlib.Core.Bool.{Bool, _&&_}
+use mathlib.Core.List.{List, [], _∷_, _++_}
+use lib.ListN.{length, take, drop}
+use lib.Dec.{leb, eqb}
+use Rattle.wire.specs.Numbers.{bytes}
+use Rattle.wire.specs.Laid.{row}
+use Rattle.wire.specs.Tests.{pick, firstFailed}
+use Rattle.cases.specs.Cases.{readingOf}
+use Rattle.answer.specs.Answer.{answerOf}
+use Rattle.sheet.specs.Words.{Reading, SheetAnswer}
+
+-- ---- the place of a case: case k begins at 88 · k
+unfoldable pub caseAt : List ℕ → ℕ → List ℕ
+caseAt s k = take 88 (drop (k * 88) s)
+
+abbrev pub casesIn : List ℕ → ℕ
+casesIn s = length s / 88
+
+-- ---- what a case adds. A judgement doesn't know its index.
+
+-- 0 length 12; 2 kind 18; 4 index from 0; 8 number; 10 two zeros
+unfoldable pub refusalBytes : ℕ → ℕ → List ℕ
+refusalBytes index number = bytes 2 12 ++ bytes 2 18 ++ bytes 4 index ++ bytes 2 number ++ bytes 2 0
+
+-- a ruled case has its 96 bytes of answer, a refused one its refusal record
+unfoldable pub entryBytes : ℕ → Reading → List ℕ
+entryBytes index r = pick (eqb (r .refusal) 0) (answerOf (r .facts)) (refusalBytes index (r .refusal))
+
+unfoldable pub ruledOne : Reading → ℕ
+ruledOne r = pick (eqb (r .refusal) 0) 1 0
+
+-- ---- the row of them: each case as by itself, in order
+abbrev pub entryOf : List ℕ → ℕ → List ℕ
+entryOf s k = entryBytes k (readingOf (caseAt s k))
+
+-- how many of the first n cases are ruled
+unfoldable pub ruledIn : List ℕ → ℕ → ℕ
+ruledIn s zero = 0
+ruledIn s (suc k) = ruledIn s k + ruledOne (readingOf (caseAt s k))
+
+-- ---- the whole sheet: 10 where it is no whole number of cases or too long, then 11, then each case
+unfoldable pub sheetRefusalOf : List ℕ → ℕ → ℕ
+sheetRefusalOf s room = firstFailed ((10, eqb (length s % 88) 0 && leb (length s) 52800) ∷ (11, leb (casesIn s * 96) room) ∷ [])
+
+abbrev pub refusedWhole : ℕ → SheetAnswer × List ℕ
+refusedWhole n = (record { refusal = n; written = 0; ruled = 0; refused = 0 }, [])
+
+abbrev pub ruledWhole : List ℕ → ℕ → SheetAnswer × List ℕ
+ruledWhole s n = (record { refusal = 0; written = length (row (entryOf s) n); ruled = ruledIn s n; refused = n - ruledIn s n }, row (entryOf s) n)
+
+-- the answer, with the bytes that are written into a buffer of `room` bytes: none where the sheet is refused whole
+unfoldable pub sheetOf : List ℕ → ℕ → SheetAnswer × List ℕ
+sheetOf s room = pick (eqb (sheetRefusalOf s room) 0) (ruledWhole s (casesIn s)) (refusedWhole (sheetRefusalOf s room))
+
+-- the first n cases of a sheet, the last of them first
+unfoldable pub casesOf : List ℕ → ℕ → List (List ℕ)
+casesOf s zero = []
+casesOf s (suc k) = caseAt s k ∷ casesOf s k
