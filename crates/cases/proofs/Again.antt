@@ -1,7 +1,7 @@
 -- Facts that pass the tests come back from their 88 bytes.
-use Prim.Native.Nat.{ℕ, _+_, _≤_, _<_}
+use Prim.Native.Nat.{ℕ, _+_, _<_}
 use mathlib.Core.Path.{_≡_, refl, ap, _∙_}
-use mathlib.Core.Bool.{true, not, _&&_, _||_}
+use mathlib.Core.Bool.{true, _||_}
 use mathlib.Core.List.{List, [], _∷_}
 use native.Mathlib.Omega.{arith}
 use native.Mathlib.Nat.{lt-of-le-of-lt}
@@ -14,7 +14,7 @@ use Rattle.wire.proofs.Tests.{both-true, none-fails}
 use Rattle.facts.specs.Codes.{priceOf, priceNumber, momentOf, momentNumber, sideOf, kindOf, dayOf, agreementOf, flagOf}
 use Rattle.facts.proofs.Codes.{side-again, kind-again, day-again, agreement-again, flag-again}
 use Rattle.record.specs.Record.{tradeOf, marketOf, requestOf, partyAt, settlementOf, factsOf, recordBytes}
-use Rattle.refusals.specs.Tests.{millsOk, priceOk, momentOk, quoteOk, codesOk, quotesPriced, pricesOk, countsOk, timesOk, filedOk, limitsOk, agreementOk, faultOf}
+use Rattle.refusals.specs.Tests.{millsOk, priceOk, momentOk, quoteOk, codesOk, quotesPriced, pricesOk, countsOk, timesOk, filedOk, faultOf}
 use Rattle.cases.specs.Words.{Contracts, Price, At, None, Moment, After, Never, Party, Trade, Market, Request, Settlement, Facts}
 use Rattle.cases.specs.Cases.{Held}
 

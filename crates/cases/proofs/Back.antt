@@ -1,9 +1,8 @@
 -- Bytes that pass the tests 1 to 3 are the bytes of the facts that they say.
 use Prim.Native.Nat.{ℕ, _+_, _<_}
 use mathlib.Core.Path.{_≡_, refl, sym, ap, _∙_}
-use mathlib.Core.Bool.{true, _&&_}
+use mathlib.Core.Bool.{true}
 use mathlib.Core.List.{List, _++_}
-use native.Mathlib.Omega.{arith}
 use lib.ListN.{getD}
 use lib.Dec.{eqb}
 use borrow.Author.Tests.{eqb-true}
@@ -11,7 +10,7 @@ use Rattle.wire.specs.Numbers.{bytes, elements, numberAt}
 use Rattle.wire.specs.Tests.{inRange}
 use Rattle.wire.proofs.Numbers.{elements-all, bytes-number}
 use Rattle.wire.proofs.Tests.{both-true}
-use Rattle.facts.specs.Codes.{priceOf, priceNumber, momentOf, momentNumber, sideOf, sideNumber, kindOf, kindNumber, dayOf, dayNumber, agreementOf, agreementNumber, flagOf, flagNumber}
+use Rattle.facts.specs.Codes.{priceOf, priceNumber, momentOf, momentNumber}
 use Rattle.facts.proofs.Codes.{price-number, moment-number, side-number, kind-number, day-number, agreement-number, flag-number}
 use Rattle.record.specs.Record.{tradeOf, marketOf, requestOf, partyAt, settlementOf, factsOf, headBytes, tradeBytes, marketBytes, flagBytes, partyBytes, listBytes, tailBytes, recordBytes}
 use Rattle.refusals.specs.Tests.{headOk, zerosOk, listsOk}

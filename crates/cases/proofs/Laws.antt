@@ -6,7 +6,7 @@ use mathlib.Core.List.{List, []}
 use lib.ListN.{length}
 use lib.Dec.{leb, eqb}
 use borrow.Author.Tests.{le-leb, lt-leb, leb-true, eq-eqb, ne-eqb, eqb-true, eqb-false}
-use Rattle.wire.specs.Tests.{pick, firstFailed}
+use Rattle.wire.specs.Tests.{pick}
 use Rattle.wire.proofs.Tests.{both-true, none-fails, first-append}
 use Rattle.record.specs.Record.{factsOf, recordBytes}
 use Rattle.refusals.specs.Tests.{lengthOk, headOk, zerosOk, listsOk, formTests, factTests, formFaultOf, faultOf}

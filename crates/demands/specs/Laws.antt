@@ -1,6 +1,6 @@
 -- The laws the counter relies on (01), of every ruling on accepted facts: those that pass the tests 4 to 9.
 -- (That reordering a sheet only reorders the answers comes with the sheet.)
-use Prim.Native.Nat.{ℕ, _≤_}
+use Prim.Native.Nat.{_≤_}
 use native.Mathlib.Nat.{le-trans}
 use mathlib.Core.Path.{_≡_}
 use mathlib.Core.Bool.{true}

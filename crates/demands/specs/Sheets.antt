@@ -1,6 +1,6 @@
 -- Sheets (01, "What goes out" and "Laws the counter relies on").
 use Prim.Native.Nat.{ℕ, _+_, _*_, _<_}
-use mathlib.Core.Path.{_≡_, ap, _∙_}
+use mathlib.Core.Path.{_≡_, ap}
 use mathlib.Core.List.{List, List·Permᴰ}
 use native.Mathlib.Omega.{arith}
 use lib.ListN.{length}

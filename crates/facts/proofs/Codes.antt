@@ -6,7 +6,7 @@ use lib.Dec.{eqb}
 use borrow.Author.Tests.{eqb-true}
 use Rattle.wire.specs.Tests.{pick, inRange}
 use Rattle.wire.proofs.Tests.{each-listed}
-use Rattle.facts.specs.Words.{Price, None, At, Moment, Never, After, Side, Buy, Sell, Kind, Customer, MarketMaker, Other, Day, TradeDate, NextDay, Later, Agreement, NotMade, OnPrice, ToNullify}
+use Rattle.facts.specs.Words.{None, At, Never, After, Side, Buy, Sell, Kind, Customer, MarketMaker, Other, Day, TradeDate, NextDay, Later, Agreement, NotMade, OnPrice, ToNullify}
 use Rattle.facts.specs.Codes.{mills, seconds, priceOf, priceNumber, momentOf, momentNumber, sideOf, sideNumber, kindOf, kindNumber, dayOf, dayNumber, agreementOf, agreementNumber, flagOf, flagNumber}
 
 -- ---- numbers read and spelled again: of any number for what may be none, of a listed byte for a code

@@ -1,6 +1,6 @@
 -- The laws of a ruling, each an instance of the one walk. Our table is sound (`bands-sound`); nothing else is asked of it.
-use Prim.Native.Nat.{ℕ, _+_, _-_, _≤_}
-use mathlib.Core.Path.{_≡_, refl, sym, ap, _∙_}
+use Prim.Native.Nat.{ℕ, _-_, _≤_}
+use mathlib.Core.Path.{_≡_, refl}
 use mathlib.Core.Bool.{Bool, true, false}
 use mathlib.Core.Logic.{⊎-elim}
 use native.Mathlib.Omega.{arith}
@@ -8,17 +8,14 @@ use lib.Dec.{ltb}
 use borrow.Author.Tests.{ltb-true, leb-true}
 use Rattle.wire.specs.Tests.{pick, inRange}
 use Rattle.wire.proofs.Tests.{range-ends}
-use Rattle.bands.specs.Table.{bandOf}
 use Rattle.bands.specs.Amounts.{largest}
-use Rattle.bands.specs.Between.{Between}
 use Rattle.bands.proofs.Sound.{bands-sound}
 use Rattle.parties.specs.Parties.{anyCustomer}
 use Rattle.theory.specs.Theory.{upTo}
 use Rattle.theory.proofs.Prices.{theory-priced}
 use Rattle.agreement.specs.Agreed.{inTime, mayNullify, termsOf, heededOf, acceptedInTime}
-use Rattle.act.specs.Numbers.{IfPriced, actPrice}
 use Rattle.act.proofs.Priced.{act-between, act-priced}
-use Rattle.ruling.specs.Words.{Mills, Contracts, Price, At, None, Agreement, NotMade, OnPrice, ToNullify, Facts, Way, Obvious, Opening, Catastrophic, Cover, UpTo, Every, Source, Heeded, Ignored, Repriced, Undone, Adjust}
+use Rattle.ruling.specs.Words.{Mills, Contracts, Price, At, None, Agreement, NotMade, OnPrice, ToNullify, Facts, Way, Obvious, Opening, Catastrophic, Cover, UpTo, Every, Source, Ignored, Repriced}
 use Rattle.ruling.specs.Counts.{coveredBy, covered}
 use Rattle.ruling.specs.Ruling.{rulingOf}
 use Rattle.ruling.specs.Laws.{LiesBetween, SumsTo, PricedUpTo}

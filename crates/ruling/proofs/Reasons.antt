@@ -1,12 +1,11 @@
 -- Every ruling has the outcome of its reason.
 use Prim.Native.Nat.{ℕ}
-use mathlib.Core.Path.{_≡_, refl, sym, ap, _∙_}
+use mathlib.Core.Path.{_≡_, refl, sym, ap}
 use mathlib.Core.Bool.{true}
 use mathlib.Core.Logic.{⊎-elim}
 use native.Mathlib.Omega.{arith}
-use borrow.Author.Tests.{ne-eqb}
 use Rattle.wire.specs.Tests.{inRange}
-use Rattle.wire.proofs.Tests.{range-in, range-low, range-high, range-ends}
+use Rattle.wire.proofs.Tests.{range-in, range-high, range-ends}
 use Rattle.ruling.specs.Words.{Facts, Ruling}
 use Rattle.ruling.specs.Reasons.{outcomeNumber, reasonOutcome}
 use Rattle.ruling.specs.Ruling.{rulingOf}

@@ -1,7 +1,7 @@
 -- One walk over the steps: what holds of each form of a ruling, on the grounds that lead to it, holds of every ruling.
 use Prim.Native.Nat.{ℕ}
 use Rattle.wire.proofs.Tests.{range-wider}
-use mathlib.Core.Path.{_≡_, refl, sym, _∙_}
+use mathlib.Core.Path.{_≡_, refl}
 use mathlib.Core.Bool.{Bool, true, false}
 use mathlib.Core.Logic.{_⊎_, inl, inr}
 use Rattle.wire.specs.Tests.{pick, inRange}

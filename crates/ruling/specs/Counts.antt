@@ -1,5 +1,5 @@
 -- How many contracts a ruling covers (01, "Contracts").
-use Prim.Native.Nat.{ℕ, _-_}
+use Prim.Native.Nat.{_-_}
 use lib.Dec.{ltb}
 use Rattle.wire.specs.Tests.{pick}
 use Rattle.facts.specs.Codes.{contracts}

@@ -5,7 +5,7 @@ use mathlib.Core.Bool.{true}
 use Rattle.wire.specs.Tests.{inRange}
 use Rattle.bands.specs.Between.{Between}
 use Rattle.act.specs.Numbers.{IfPriced}
-use Rattle.ruling.specs.Words.{Mills, Price, At, None, Counts, Outcome, NoRelief, Adjusted, Nullified, Waiting, Ruling}
+use Rattle.ruling.specs.Words.{Mills, Price, At, None, Counts, Ruling}
 use Rattle.ruling.specs.Reasons.{newPrice, countsOf}
 
 -- the contracts adjusted, nullified and standing together

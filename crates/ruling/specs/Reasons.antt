@@ -1,8 +1,8 @@
 -- The page's numbers and values for a ruling (01, "What goes out"), and the outcome that each reason has.
-use Prim.Native.Nat.{ℕ, _+_}
+use Prim.Native.Nat.{ℕ}
 use lib.Dec.{eqb}
 use Rattle.wire.specs.Tests.{pick, inRange}
-use Rattle.ruling.specs.Words.{Contracts, Price, At, None, Counts, Outcome, NoRelief, Adjusted, Nullified, Waiting}
+use Rattle.ruling.specs.Words.{Price, At, None, Counts, Outcome, NoRelief, Adjusted, Nullified, Waiting}
 
 -- the outcome: 0 no relief, 1 adjusted, 2 nullified, 3 waiting
 abbrev pub outcomeNumber : Outcome → ℕ

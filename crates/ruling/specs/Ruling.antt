@@ -1,6 +1,5 @@
 -- The ruling on a case (01, "The steps of a ruling"): each step of the page under its own name, in the page's order.
 use Prim.Native.Nat.{ℕ}
-use mathlib.Core.Bool.{Bool}
 use Rattle.wire.specs.Tests.{pick}
 use Rattle.bands.specs.Table.{bandOf}
 use Rattle.bands.specs.Amounts.{inError}

@@ -8,7 +8,9 @@ use lib.Dec.{eqb}
 use borrow.Author.Tests.{eqb-true, eqb-false}
 use Rattle.wire.specs.Laid.{row}
 use Rattle.wire.proofs.Rows.{row-same, row-split}
+use Rattle.record.specs.Record.{factsOf}
 use Rattle.cases.specs.Cases.{readingOf}
+use Rattle.cases.proofs.Laws.{accepted-reading}
 use Rattle.answer.specs.Answer.{answerOf}
 use Rattle.sheet.specs.Words.{Reading}
 use Rattle.sheet.specs.Sheet.{caseAt, entryBytes, ruledOne, entryOf, ruledIn}
@@ -21,7 +23,7 @@ around : (s : List ℕ) (n j : ℕ) → j < n → readingOf (caseAt s j) .refusa
 around s n j h e =
     ap (row (entryOf s)) (let k : n ≡ suc j + (n - suc j) = omega arith in k)
     ∙ row-split (entryOf s) j (n - suc j)
-    ∙ ap (λ (w : List ℕ). row (entryOf s) j ++ (w ++ row (λ k. entryOf s (suc j + k)) (n - suc j))) (entry-ruled j (readingOf (caseAt s j)) e)
+    ∙ ap (λ (w : List ℕ). row (entryOf s) j ++ (w ++ row (λ k. entryOf s (suc j + k)) (n - suc j))) (entry-ruled j (readingOf (caseAt s j)) e ∙ ap (λ (r : Reading). answerOf (r .facts)) (accepted-reading (caseAt s j) e))
 
 -- cases that count alike are as many
 ruled-same : (s t : List ℕ) (n : ℕ) → ((k : ℕ) → k < n → ruledOne (readingOf (caseAt s k)) ≡ ruledOne (readingOf (caseAt t k))) → ruledIn s n ≡ ruledIn t n
@@ -55,9 +57,9 @@ module _ (s t : List ℕ) (n j : ℕ) (a : AlikeButOne s t n j) where
         first = around s n j (a .within) (a .first);
         second =
             around t n j (a .within) (a .second)
-            ∙ ap (λ (w : List ℕ). w ++ (answerOf (readingOf (caseAt t j) .facts) ++ row (λ k. entryOf t (suc j + k)) (n - suc j)))
+            ∙ ap (λ (w : List ℕ). w ++ (answerOf (factsOf (caseAt t j)) ++ row (λ k. entryOf t (suc j + k)) (n - suc j)))
             (row-same (entryOf t) (entryOf s) j (λ k l. entry-same k (let h = a .within in omega arith) (λ e. omega arith)))
-            ∙ ap (λ (w : List ℕ). row (entryOf s) j ++ (answerOf (readingOf (caseAt t j) .facts) ++ w))
+            ∙ ap (λ (w : List ℕ). row (entryOf s) j ++ (answerOf (factsOf (caseAt t j)) ++ w))
             (row-same (λ k. entryOf t (suc j + k)) (λ k. entryOf s (suc j + k)) (n - suc j)
             (λ k l. entry-same (suc j + k) (let h = a .within in omega arith) (λ e. omega arith)));
         ruled = ruled-same s t n one-same;

@@ -3,6 +3,7 @@ use Prim.Native.Nat.{ℕ, _<_}
 use mathlib.Core.Path.{_≡_}
 use mathlib.Core.List.{List, _++_}
 use Rattle.wire.specs.Laid.{row}
+use Rattle.record.specs.Record.{factsOf}
 use Rattle.cases.specs.Cases.{readingOf}
 use Rattle.answer.specs.Answer.{answerOf}
 use Rattle.sheet.specs.Sheet.{caseAt, entryOf, ruledIn}
@@ -16,7 +17,7 @@ pub record AlikeButOne (s t : List ℕ) (n j : ℕ) : Type 0 where
 
 -- what the sheet s writes: bytes before, the 96 bytes of case j, bytes after
 abbrev pub Around : List ℕ → ℕ → ℕ → List ℕ → List ℕ → Type 0
-Around s n j before after = row (entryOf s) n ≡ before ++ (answerOf (readingOf (caseAt s j) .facts) ++ after)
+Around s n j before after = row (entryOf s) n ≡ before ++ (answerOf (factsOf (caseAt s j)) ++ after)
 
 -- the same bytes before and after, and the same counts: only the answer to case j can differ
 pub record OnlyCase (s t : List ℕ) (n j : ℕ) : Type 0 where
