@@ -4,6 +4,7 @@ ghost use mathlib.Core.Path.{_≡_};
 ghost use lib.ListN.{length};
 ghost use Rattle.wire.specs.Tests.{pick, inRange};
 ghost use Rattle.refusals.specs.Tests.{headOk, zerosOk, listsOk, formFaultOf};
+
 // ---- 2 and 3: tests on 88 bytes
 
 fn head_ok(s: &[u8]) -> bool
