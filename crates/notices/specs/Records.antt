@@ -4,24 +4,9 @@ use mathlib.Core.Bool.{Bool}
 use mathlib.Core.List.{List, [], _∷_, _++_}
 use Rattle.wire.specs.Numbers.{bytes, elements}
 use Rattle.wire.specs.Tests.{pick, inRange}
-use Rattle.facts.specs.Codes.{priceNumber, sideNumber}
-use Rattle.ruling.specs.Reasons.{outcomeNumber, newPrice, countsOf}
+use Rattle.facts.specs.Codes.{sideNumber}
+use Rattle.figures.specs.Figures.{figuresOf}
 use Rattle.notices.specs.Words.{Side, Buy, Sell, Ruling, Figures}
-
--- A ruling in the page's numbers: the outcome 0 no relief, 1 adjusted, 2 nullified, 3 waiting; TP or none; the new price, none
--- unless adjusted; the contracts adjusted, nullified and standing.
-abbrev pub figuresOf : Ruling → Figures
-figuresOf r =
-    record {
-      trade = r .trade;
-      outcome = outcomeNumber (r .outcome);
-      reason = r .reason;
-      tp = priceNumber (r .tp);
-      price = priceNumber (newPrice (r .outcome));
-      adjusted = countsOf (r .outcome) .adjusted .0;
-      nullified = countsOf (r .outcome) .nullified .0;
-      standing = countsOf (r .outcome) .standing .0;
-    }
 
 -- ---- how both records begin; at 10 each has a byte of its own
 abbrev pub headBytes : ℕ → Figures → ℕ → List ℕ

@@ -5,81 +5,10 @@ ghost use Prim.Native.Nat.{_+_, _≤_};
 ghost use lib.ListN.{length};
 ghost use Rattle.wire.specs.Numbers.{elements, stored};
 ghost use Rattle.wire.specs.Laid.{laid};
-ghost use Rattle.ruling.specs.Reasons.{outcomeNumber, newPrice, countsOf};
-ghost use Rattle.notices.specs.Records.{figuresOf, headBytes, ruledBytes, rulingRecord, toldBytes, shows, shownCode, codeBytes, noticeRecord, answerBytes};
-use facts::Price;
+ghost use Rattle.notices.specs.Records.{headBytes, ruledBytes, rulingRecord, toldBytes, shows, shownCode, codeBytes, noticeRecord, answerBytes};
 use facts::Side;
-use ruling::Counts;
-use ruling::Outcome;
+use figures::Figures;
 use ruling::Ruling;
-
-// A ruling in the page's numbers, as both records spell it.
-struct Figures {
-    trade: u32,
-    outcome: u8,
-    reason: u8,
-    tp: u32,
-    price: u32,
-    adjusted: u32,
-    nullified: u32,
-    standing: u32,
-}
-
-// ---- a ruling in the page's numbers
-
-fn outcome_number(o: Outcome) -> u8
-    ensures { λ r. ⌜ r ≡ outcomeNumber o ⌝ }
-{
-    match o {
-        Outcome::NoRelief(_) => 0,
-        Outcome::Adjusted(_) => 1,
-        Outcome::Nullified(_) => 2,
-        Outcome::Waiting(_) => 3,
-    }
-}
-
-fn new_price(o: Outcome) -> Price
-    ensures { λ r. ⌜ r ≡ newPrice o ⌝ }
-{
-    match o {
-        Outcome::NoRelief(_) => Price::None,
-        Outcome::Adjusted(a) => {
-            let price = a.price;
-            Price::At(price)
-        }
-        Outcome::Nullified(_) => Price::None,
-        Outcome::Waiting(_) => Price::None,
-    }
-}
-
-fn counts_of(o: Outcome) -> Counts
-    ensures { λ r. ⌜ r ≡ countsOf o ⌝ }
-{
-    match o {
-        Outcome::NoRelief(c) => c,
-        Outcome::Adjusted(a) => a.counts,
-        Outcome::Nullified(c) => c,
-        Outcome::Waiting(c) => c,
-    }
-}
-
-fn figures_of(r: Ruling) -> Figures
-    ensures { λ n. ⌜ n ≡ figuresOf r ⌝ }
-{
-    let outcome = r.outcome;
-    let tp = r.tp;
-    let counts = counts_of(outcome);
-    Figures {
-        trade: r.trade,
-        outcome: outcome_number(outcome),
-        reason: r.reason,
-        tp: facts::price_number(tp),
-        price: facts::price_number(new_price(outcome)),
-        adjusted: counts.adjusted.0,
-        nullified: counts.nullified.0,
-        standing: counts.standing.0,
-    }
-}
 
 // ---- whether a party learns the other's code
 
@@ -177,7 +106,7 @@ pub fn put_answer(out: &mut [u8], r: Ruling, buyer: [u8; 4], seller: [u8; 4])
     requires { ⌜ 96 ≤ length (now out) ⌝ }
     ensures { λ _. ⌜ now (out .exit) ≡ laid (answerBytes r buyer seller) (now (out .entry)) ⌝ }
 {
-    let n = figures_of(r);
+    let n = figures::figures_of(r);
     put_ruling(out, n);
     put_notice(&mut out[32..], n, Side::Buy, buyer, seller);
     put_notice(&mut out[64..], n, Side::Sell, seller, buyer);

@@ -45,8 +45,8 @@ module _ (s t : List ℕ) (n j : ℕ) (a : AlikeButOne s t n j) where
     by-test : (b : Bool) → eqb k j ≡ b → ruledOne (readingOf (caseAt s k)) ≡ ruledOne (readingOf (caseAt t k))
     by-test true e =
         let same = eqb-true k j e in
-        ap (λ (i : ℕ). ruledOne (readingOf (caseAt s i))) same ∙ one-ruled 0 (readingOf (caseAt s j)) (a .first)
-        ∙ sym (ap (λ (i : ℕ). ruledOne (readingOf (caseAt t i))) same ∙ one-ruled 0 (readingOf (caseAt t j)) (a .second))
+        ap (λ (i : ℕ). ruledOne (readingOf (caseAt s i))) same ∙ one-ruled (readingOf (caseAt s j)) (a .first)
+        ∙ sym (ap (λ (i : ℕ). ruledOne (readingOf (caseAt t i))) same ∙ one-ruled (readingOf (caseAt t j)) (a .second))
     by-test false e = ap (λ (c : List ℕ). ruledOne (readingOf c)) (a .others k l (eqb-false k j e))
 
   pub only-case : OnlyCase s t n j

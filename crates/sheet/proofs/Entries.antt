@@ -18,6 +18,16 @@ refusal-length : (k n : ℕ) → length (refusalBytes k n) ≡ 12
 unfolding refusalBytes
 refusal-length k n = refl
 
+-- a case counts one if it is ruled
+module _ (r : Reading) where
+  pub one-ruled : r .refusal ≡ 0 → ruledOne r ≡ 1
+  unfolding ruledOne
+  one-ruled h = simp (eq-eqb (r .refusal) 0 h)
+
+  pub one-refused : (r .refusal ≡ 0 → ⊥) → ruledOne r ≡ 0
+  unfolding ruledOne
+  one-refused h = simp (ne-eqb (r .refusal) 0 h)
+
 module _ (k : ℕ) (r : Reading) where
   pub entry-ruled : r .refusal ≡ 0 → entryBytes k r ≡ answerOf (r .facts)
   unfolding entryBytes
@@ -27,20 +37,12 @@ module _ (k : ℕ) (r : Reading) where
   unfolding entryBytes
   entry-refused h = simp (ne-eqb (r .refusal) 0 h)
 
-  pub one-ruled : r .refusal ≡ 0 → ruledOne r ≡ 1
-  unfolding ruledOne
-  one-ruled h = simp (eq-eqb (r .refusal) 0 h)
-
-  pub one-refused : (r .refusal ≡ 0 → ⊥) → ruledOne r ≡ 0
-  unfolding ruledOne
-  one-refused h = simp (ne-eqb (r .refusal) 0 h)
-
   -- an entry has 96 bytes and counts one, or it has 12 and counts none
   pub entry-length : ((length (entryBytes k r) ≡ 96) × (ruledOne r ≡ 1)) ⊎ ((length (entryBytes k r) ≡ 12) × (ruledOne r ≡ 0))
   entry-length = by-test (eqb (r .refusal) 0) refl where
     by-test : (b : Bool) → eqb (r .refusal) 0 ≡ b → ((length (entryBytes k r) ≡ 96) × (ruledOne r ≡ 1)) ⊎ ((length (entryBytes k r) ≡ 12) × (ruledOne r ≡ 0))
-    by-test true e = let h = eqb-true (r .refusal) 0 e in inl (ap length (entry-ruled h) ∙ answer-length (r .facts), one-ruled h)
-    by-test false e = let h = eqb-false (r .refusal) 0 e in inr (ap length (entry-refused h) ∙ refusal-length k (r .refusal), one-refused h)
+    by-test true e = let h = eqb-true (r .refusal) 0 e in inl (ap length (entry-ruled h) ∙ answer-length (r .facts), one-ruled r h)
+    by-test false e = let h = eqb-false (r .refusal) 0 e in inr (ap length (entry-refused h) ∙ refusal-length k (r .refusal), one-refused r h)
 
   pub entry-most : length (entryBytes k r) ≤ 96
   entry-most = ⊎-elim (λ e. omega arith) (λ e. omega arith) entry-length
@@ -48,16 +50,18 @@ module _ (k : ℕ) (r : Reading) where
   pub one-most : ruledOne r ≤ 1
   one-most = ⊎-elim (λ e. omega arith) (λ e. omega arith) entry-length
 
--- ---- the promise of `rule_entry`: r is what reading answered, s what it means
+-- ---- what a case adds, from its parts: r is what reading answered, s what it means
+pub entered : (f : ℕ → Reading → List ℕ) (k : ℕ) (r s : Reading) (w l m : List ℕ) (bytes one : ℕ) → r ≡ s
+    → f k r ≡ w → bytes ≡ length w → ruledOne r ≡ one → m ≡ laid w l
+    → (bytes ≡ length (f k s)) × (one ≡ ruledOne s) × (m ≡ laid (f k s) l)
+entered f k r s w l m bytes one e is long counts wrote = rw (← e, is) (long, sym counts, wrote)
+
 module _ (k : ℕ) (r s : Reading) (e : r ≡ s) (l m : List ℕ) where
   abbrev Entered : ℕ → ℕ → Type 0
   Entered bytes ruled = (bytes ≡ length (entryBytes k s)) × (ruled ≡ ruledOne s) × (m ≡ laid (entryBytes k s) l)
 
   pub enter-ruled : r .refusal ≡ 0 → m ≡ laid (answerOf (r .facts)) l → Entered 96 1
-  enter-ruled h w =
-      rw (← e) (sym (ap length (entry-ruled k r h) ∙ answer-length (r .facts)), sym (one-ruled k r h), w ∙ ap (λ (x : List ℕ). laid x l) (sym (entry-ruled k r h)))
+  enter-ruled h w = entered entryBytes k r s _ l m 96 1 e (entry-ruled k r h) (sym (answer-length (r .facts))) (one-ruled r h) w
 
   pub enter-refused : (r .refusal ≡ 0 → ⊥) → m ≡ laid (refusalBytes k (r .refusal)) l → Entered 12 0
-  enter-refused h w =
-      rw (← e)
-      (sym (ap length (entry-refused k r h) ∙ refusal-length k (r .refusal)), sym (one-refused k r h), w ∙ ap (λ (x : List ℕ). laid x l) (sym (entry-refused k r h)))
+  enter-refused h w = entered entryBytes k r s _ l m 12 0 e (entry-refused k r h) (sym (refusal-length k (r .refusal))) (one-refused r h) w

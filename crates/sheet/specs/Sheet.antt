@@ -1,6 +1,6 @@
 -- What a sheet answers (01, "What goes out" and "Numbers given back instead of a ruling"). A sheet is a row of cases.
 use Prim.Native.Nat.{ℕ, zero, suc, _+_, _-_, _*_, _/_, _%_}
-use mathlib.Core.Bool.{_&&_}
+use mathlib.Core.Bool.{Bool, _&&_}
 use mathlib.Core.List.{List, [], _∷_, _++_}
 use lib.ListN.{length, take, drop}
 use lib.Dec.{leb, eqb}
@@ -41,8 +41,11 @@ ruledIn s zero = 0
 ruledIn s (suc k) = ruledIn s k + ruledOne (readingOf (caseAt s k))
 
 -- ---- the whole sheet: 10 where it is no whole number of cases or too long, then 11, then each case
+unfoldable pub wholeCases : List ℕ → Bool
+wholeCases s = eqb (length s % 88) 0 && leb (length s) 52800
+
 unfoldable pub sheetRefusalOf : List ℕ → ℕ → ℕ
-sheetRefusalOf s room = firstFailed ((10, eqb (length s % 88) 0 && leb (length s) 52800) ∷ (11, leb (casesIn s * 96) room) ∷ [])
+sheetRefusalOf s room = firstFailed ((10, wholeCases s) ∷ (11, leb (casesIn s * 96) room) ∷ [])
 
 abbrev pub refusedWhole : ℕ → SheetAnswer × List ℕ
 refusedWhole n = (record { refusal = n; written = 0; ruled = 0; refused = 0 }, [])

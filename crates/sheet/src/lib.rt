@@ -6,7 +6,7 @@ ghost use Prim.Native.Nat.{_≤_};
 ghost use lib.ListN.{length};
 ghost use Rattle.wire.specs.Laid.{laid};
 ghost use Rattle.cases.specs.Cases.{readingOf};
-ghost use Rattle.sheet.specs.Sheet.{refusalBytes, entryBytes, ruledOne, sheetOf};
+ghost use Rattle.sheet.specs.Sheet.{refusalBytes, entryBytes, ruledOne, wholeCases, sheetOf};
 
 // What became of a sheet: the number where it was refused whole, with counts of 0; else 0, the bytes written, and how many
 // cases were ruled and refused.
@@ -65,14 +65,18 @@ fn refuse(number: u8) -> SheetAnswer
     }
 }
 
+// Whether a sheet is a whole number of cases, 600 at most.
+pub fn whole_cases(sheet: &[u8]) -> bool
+    ensures { λ r. ⌜ r ≡ wholeCases (now (sheet .entry)) ⌝ }
+{
+    (sheet.len() % 88 == 0) & (sheet.len() <= 52800)
+}
+
 // Rules a sheet: 10, 11, then each case by itself.
 pub fn rule_sheet(sheet: &[u8], out: &mut [u8]) -> SheetAnswer
     ensures { λ r. ⌜ (r ≡ sheetOf (now (sheet .entry)) (length (now (out .entry))) .0) × (now (out .exit) ≡ laid (sheetOf (now (sheet .entry)) (length (now (out .entry))) .1) (now (out .entry))) ⌝ }
 {
-    if sheet.len() % 88 != 0 {
-        return refuse(10);
-    }
-    if 52800 < sheet.len() {
+    if !whole_cases(sheet) {
         return refuse(10);
     }
     let n = sheet.len() / 88;

@@ -38,7 +38,7 @@ pub more-long : (n : ℕ) → 10 ≤ n → n < 4294967296 → length (decimalOf 
 more-long n h l = ap length (decimal-more n h l) ∙ length-append (decimalOf (n / 10)) (digit (n % 10) ∷ [])
 
 -- what holds of the first where it is picked, and of the second where it is, holds of the one picked
-either : {A : Type 0} (P : A → Type 0) (b : Bool) (x y : A) → (b ≡ true → P x) → (b ≡ false → P y) → P (pick b x y)
+pub either : {A : Type 0} (P : A → Type 0) (b : Bool) (x y : A) → (b ≡ true → P x) → (b ≡ false → P y) → P (pick b x y)
 either P true x y p q = p refl
 either P false x y p q = q refl
 

@@ -1,5 +1,7 @@
 -- Numbers and prices as the printer spells them (01, "The printer reads a sheet": prices in mills, `-` for none), and where they go in a lent buffer.
 use Prim.Native.Nat.{ℕ, zero, suc, _+_, _-_, _*_, _/_, _%_}
+use Prim.Native.Char.{code}
+use Prim.Native.String.{String, [] as nothing, _∷_ as _then_}
 use mathlib.Core.Bool.{Bool, true, _&&_}
 use mathlib.Core.List.{List, [], _∷_, _++_}
 use lib.ListN.{take}
@@ -11,6 +13,11 @@ use Rattle.text.specs.Words.{Price, At, None}
 -- w written over l from place at on: every byte before the place and every byte after w is kept
 unfoldable pub laidAt : ℕ → List ℕ → List ℕ → List ℕ
 laidAt at w l = laid (take at l ++ w) l
+
+-- the bytes of a word in plain letters: each is its letter's code
+abbrev pub letters : String → List ℕ
+letters nothing = []
+letters (c then s) = code c ∷ letters s
 
 -- the byte of a digit: 48 is `0`
 abbrev pub digit : ℕ → ℕ
@@ -25,10 +32,10 @@ spelt (suc k) n = pick (ltb n 10) (digit n ∷ []) (spelt k (n / 10) ++ (digit (
 unfoldable pub decimalOf : ℕ → List ℕ
 decimalOf n = spelt 9 n
 
--- a price in mills, or `-` (45) for none
+-- a price in mills, or `-` for none
 unfoldable pub priceText : Price → List ℕ
 priceText (At m) = decimalOf (m .0)
-priceText None = 45 ∷ []
+priceText None = letters "-"
 
 -- ---- what a reader makes of the digits
 

@@ -1,7 +1,8 @@
-// The text of the printer's lines: a number in decimal, a word, a price or `-`. Each goes into a lent buffer from a place on, every
+// The text of the printer's lines: a number in decimal, a word, a byte, a price or `-`. Each goes into a lent buffer from a place on, every
 // other byte stays, and the answer is the place after it. Nothing is refused here: whoever asks has tested the room.
 ghost use mathlib.Core.Path.{_≡_};
 ghost use Prim.Native.Nat.{_+_, _≤_};
+ghost use mathlib.Core.List.{[], _∷_};
 ghost use lib.ListN.{length};
 ghost use Rattle.text.specs.Text.{laidAt, decimalOf, priceText};
 use facts::Price;
@@ -28,6 +29,15 @@ pub fn add_word(out: &mut [u8], at: usize, word: &[u8]) -> usize
     at + bytes::copy(word, &mut out[at..])
 }
 
+// One byte.
+pub fn add_byte(out: &mut [u8], at: usize, b: u8) -> usize
+    requires { ⌜ at + 1 ≤ length (now out) ⌝ }
+    ensures { λ r. ⌜ (r ≡ at + 1) × (now (out .exit) ≡ laidAt at (b ∷ []) (now (out .entry))) ⌝ }
+{
+    out[at] = b;
+    at + 1
+}
+
 // A price in mills, or `-` for none.
 pub fn add_price(out: &mut [u8], at: usize, p: Price) -> usize
     requires { ⌜ at + 10 ≤ length (now out) ⌝ }
@@ -35,6 +45,6 @@ pub fn add_price(out: &mut [u8], at: usize, p: Price) -> usize
 {
     match p {
         Price::At(m) => add_decimal(out, at, m.0),
-        Price::None => add_word(out, at, b"-"),
+        Price::None => add_byte(out, at, b'-'),
     }
 }

@@ -7,39 +7,43 @@ use denote.Ref.{now}
 use borrow.Author.Needs.{needs}
 use Rattle.wire.proofs.Laid.{laid-none, ends}
 use Rattle.sheet.specs.Words.{SheetAnswer}
-use Rattle.sheet.proofs.Turns.{Turn, first, next, sheet-ragged, sheet-long, sheet-room, sheet-ruled, bytes-most, few-more}
+use Rattle.sheet.specs.Sheet.{entryBytes}
+use Rattle.sheet.proofs.Entries.{entry-most}
+use Rattle.sheet.proofs.Turns.{Turn, first, next, sheet-refused, not-whole, not-ragged, sheet-room, whole-length, sheet-ruled, bytes-most, few-more}
 use Rattle.sheet.proofs.rule_sheet.Statement.{statement}
 use Rattle.sheet.proofs.rule_sheet.Tie as tie
 
 abbrev Inv-loop : tie.InvT-loop
-Inv-loop sheet out₀ n i₀ at₀ ruled₀ out i at ruled = Turn sheet out₀ out i at ruled
+Inv-loop sheet out₀ n i₀ at₀ ruled₀ out i at ruled = Turn entryBytes 96 sheet out₀ out i at ruled
 
 abbrev μ-loop : tie.MeasureT-loop
 μ-loop sheet out₀ n i₀ at₀ ruled₀ out i at ruled = n - i
+
+whole-cases-requires : tie.Need-whole-cases-requires Inv-loop μ-loop
+whole-cases-requires c κs = search needs
 
 refuse-requires : tie.Need-refuse-requires Inv-loop μ-loop
 refuse-requires c κs = search needs
 
 returns : tie.Need-returns Inv-loop μ-loop
-returns c = ends _ _ _ (sheet-ragged _ _ (c .before .if1 .taken) ∙ ap (λ (a : SheetAnswer). (a, [])) (sym (c .refuse .ensures))) (laid-none _)
+returns c =
+    let t = c .before in
+    ends _ _ _ (sheet-refused _ _ (sym (t .before .whole-cases .ensures) ∙ not-whole _ (t .if1 .taken)) ∙ ap (λ (a : SheetAnswer). (a, [])) (sym (c .refuse .ensures))) (laid-none _)
+
+mul-if2 : tie.Need-mul-if2 Inv-loop μ-loop
+mul-if2 c = omega arith
 
 refuse-requires-2 : tie.Need-refuse-requires-2 Inv-loop μ-loop
 refuse-requires-2 c κs = search needs
 
 returns-2 : tie.Need-returns-2 Inv-loop μ-loop
-returns-2 c = ends _ _ _ (sheet-long _ _ (c .before .before .if1 .left) (c .before .if2 .taken) ∙ ap (λ (a : SheetAnswer). (a, [])) (sym (c .refuse2 .ensures))) (laid-none _)
-
-mul-if3 : tie.Need-mul-if3 Inv-loop μ-loop
-mul-if3 c = omega arith
-
-refuse-requires-3 : tie.Need-refuse-requires-3 Inv-loop μ-loop
-refuse-requires-3 c κs = search needs
-
-returns-3 : tie.Need-returns-3 Inv-loop μ-loop
-returns-3 c = ends _ _ _ (sheet-room _ _ (c .before .before .before .if1 .left) (c .before .before .if2 .left) (c .before .if3 .taken) ∙ ap (λ (a : SheetAnswer). (a, [])) (sym (c .refuse3 .ensures))) (laid-none _)
+returns-2 c =
+    let t = c .before in
+    let w = t .before in
+    ends _ _ _ (sheet-room _ _ (sym (w .before .whole-cases .ensures) ∙ not-ragged _ (w .if1 .left)) (t .if2 .taken) ∙ ap (λ (a : SheetAnswer). (a, [])) (sym (c .refuse2 .ensures))) (laid-none _)
 
 loop-holds : tie.Need-loop-holds Inv-loop μ-loop
-loop-holds c = first _ _
+loop-holds c = first entryBytes 96 _ _
 
 mul-from : tie.Need-mul-from Inv-loop μ-loop
 mul-from c = omega arith
@@ -57,7 +61,9 @@ part-rule-entry-end : tie.Need-part-rule-entry-end Inv-loop μ-loop
 part-rule-entry-end c = omega arith
 
 cast-rule-entry : tie.Need-cast-rule-entry Inv-loop μ-loop
-cast-rule-entry c = omega arith
+cast-rule-entry c =
+    let w = c .before .before .before .before in
+    omega (arith, whole-length _ (sym (w .before .whole-cases .ensures) ∙ not-ragged _ (w .if1 .left)))
 
 sub-rule-entry-2 : tie.Need-sub-rule-entry-2 Inv-loop μ-loop
 sub-rule-entry-2 c = omega arith
@@ -86,19 +92,20 @@ loop-less c = omega arith
 loop-again : tie.Need-loop-again Inv-loop μ-loop
 loop-again c = let e = c .before .before .before .before in
     let l = e .before .before .before .before in
-    next _ _ _ _ _ _ _ _ _ (l .loop .inv) (e .before .before .before .loop-test .taken) (e .rule-entry .ensures) (c .before .before .before .out .given .1)
+    next entryBytes 96 entry-most _ _ _ _ _ _ _ _ _ (l .loop .inv) (e .before .before .before .loop-test .taken) (e .rule-entry .ensures) (c .before .before .before .out .given .1)
 
-sub-t9 : tie.Need-sub-t9 Inv-loop μ-loop
-sub-t9 c = omega arith
+sub-t11 : tie.Need-sub-t11 Inv-loop μ-loop
+sub-t11 c = omega arith
 
 same-length : tie.Need-same-length Inv-loop μ-loop
 same-length c = omega arith
 
-returns-4 : tie.Need-returns-4 Inv-loop μ-loop
-returns-4 c = let l = c .before in
+returns-3 : tie.Need-returns-3 Inv-loop μ-loop
+returns-3 c = let l = c .before in
     let t = l .before in
-    let done : l .loop .i ≡ length (now (t .before .before .before .before .before .args .sheet)) / 88 = omega arith in
-    let e = sheet-ruled _ _ (t .before .before .if1 .left) (t .before .if2 .left) (t .if3 .left) in
+    let w = t .before in
+    let done : l .loop .i ≡ length (now (w .before .before .before .before .args .sheet)) / 88 = omega arith in
+    let e = sheet-ruled _ _ (sym (w .before .whole-cases .ensures) ∙ not-ragged _ (w .if1 .left)) (t .if2 .left) in
     let v = l .loop .inv in
     ends _ _ _ (e ∙ rw (← done) (cc)) (v .ran .1)
 
@@ -108,13 +115,12 @@ rule-sheet-spec =
     (tie.spec
     Inv-loop
     μ-loop
+    whole-cases-requires
     refuse-requires
     returns
+    mul-if2
     refuse-requires-2
     returns-2
-    mul-if3
-    refuse-requires-3
-    returns-3
     loop-holds
     mul-from
     add-rule-entry
@@ -131,6 +137,6 @@ rule-sheet-spec =
     add-i
     loop-less
     loop-again
-    sub-t9
+    sub-t11
     same-length
-    returns-4)
+    returns-3)

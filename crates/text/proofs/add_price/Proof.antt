@@ -15,11 +15,8 @@ add-decimal-requires c κs = search needs
 enum-told : tie.Need-enum-told
 enum-told c = search needs
 
-slice-aggregate-add-word : tie.Need-slice-aggregate-add-word
-slice-aggregate-add-word c = search needs
-
-add-word-requires : tie.Need-add-word-requires
-add-word-requires c κs = search needs
+add-byte-requires : tie.Need-add-byte-requires
+add-byte-requires c κs = search needs
 
 same-length : tie.Need-same-length
 same-length c = search needs
@@ -36,8 +33,8 @@ same-length-2 c = search needs
 returns-2 : tie.Need-returns-2
 unfolding priceText
 returns-2 c = let p = c .before .before in
-    let e : p .before .before .before .before .before .before .args .p ≡ None = cc in
-    rw e (p .add-word .ensures .0, p .add-word .ensures .1, omega (arith, p .add-word .ensures .0))
+    let e : p .before .before .before .before .before .args .p ≡ None = cc in
+    rw e (p .add-byte .ensures .0, p .add-byte .ensures .1, omega (arith, p .add-byte .ensures .0))
 
 pub add-price-spec : {M : Type 1} → statement M
 add-price-spec =
@@ -46,8 +43,7 @@ add-price-spec =
     enum-known-p
     add-decimal-requires
     enum-told
-    slice-aggregate-add-word
-    add-word-requires
+    add-byte-requires
     same-length
     returns
     same-length-2

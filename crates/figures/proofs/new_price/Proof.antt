@@ -1,8 +1,8 @@
 use mathlib.Core.Path.{_≡_}
-use Rattle.notices.specs.Words.{Adjusted}
+use Rattle.figures.specs.Words.{Adjusted}
 use borrow.Author.Needs.{needs}
-use Rattle.notices.proofs.new_price.Statement.{statement}
-use Rattle.notices.proofs.new_price.Tie as tie
+use Rattle.figures.proofs.new_price.Statement.{statement}
+use Rattle.figures.proofs.new_price.Tie as tie
 
 enum-told : tie.Need-enum-told
 enum-told c = search needs

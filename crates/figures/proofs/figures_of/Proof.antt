@@ -1,6 +1,6 @@
 use borrow.Author.Needs.{needs}
-use Rattle.notices.proofs.figures_of.Statement.{statement}
-use Rattle.notices.proofs.figures_of.Tie as tie
+use Rattle.figures.proofs.figures_of.Statement.{statement}
+use Rattle.figures.proofs.figures_of.Tie as tie
 
 counts-of-requires : tie.Need-counts-of-requires
 counts-of-requires c κs = search needs

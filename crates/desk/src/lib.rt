@@ -1,0 +1,59 @@
+// The desk for other programs: four functions on numbers and byte slices, in C's calling form (include/desk.h declares them). Each passes
+// its callee's promise on in the page's numbers, and asks nothing beyond what its types say.
+ghost use mathlib.Core.Path.{_≡_};
+ghost use Prim.Native.Nat.{_≤_};
+ghost use lib.ListN.{length};
+ghost use Rattle.wire.specs.Laid.{laid};
+ghost use Rattle.cases.specs.Cases.{readingOf};
+ghost use Rattle.answer.specs.Answer.{caseOf};
+ghost use Rattle.sheet.specs.Sheet.{sheetOf};
+ghost use Rattle.report.specs.Report.{textOf};
+ghost use Rattle.desk.specs.Desk.{deskSheet};
+
+// What became of a sheet: the number where it was refused whole, else 0; the bytes written; the cases ruled and refused.
+#[repr(C)]
+pub struct DeskSheet {
+    pub refusal: u64,
+    pub written: u64,
+    pub ruled: u64,
+    pub refused: u64,
+}
+
+// Reads a case: its number, 0 if it is accepted.
+#[no_mangle]
+pub extern "C" fn desk_check_case(case: &[u8]) -> u32
+    ensures { λ r. ⌜ r ≡ readingOf (now (case .entry)) .refusal ⌝ }
+{
+    let reading = cases::read_case(case);
+    reading.refusal as u32
+}
+
+// Rules a case into the first 96 bytes of a buffer: its number, 0 if it is ruled.
+#[no_mangle]
+pub extern "C" fn desk_rule_case(case: &[u8], out: &mut [u8]) -> u32
+    ensures { λ r. ⌜ (r ≡ caseOf (now (case .entry)) (length (now (out .entry))) .0) × (now (out .exit) ≡ laid (caseOf (now (case .entry)) (length (now (out .entry))) .1) (now (out .entry))) ⌝ }
+{
+    answer::rule_case(case, out) as u32
+}
+
+// Rules a sheet into a buffer.
+#[no_mangle]
+pub extern "C" fn desk_rule_sheet(sheet: &[u8], out: &mut [u8]) -> DeskSheet
+    ensures { λ r. ⌜ (r ≡ deskSheet (sheetOf (now (sheet .entry)) (length (now (out .entry))) .0)) × (now (out .exit) ≡ laid (sheetOf (now (sheet .entry)) (length (now (out .entry))) .1) (now (out .entry))) ⌝ }
+{
+    let a = sheet::rule_sheet(sheet, out);
+    DeskSheet {
+        refusal: a.refusal as u64,
+        written: a.written as u64,
+        ruled: a.ruled as u64,
+        refused: a.refused as u64,
+    }
+}
+
+// Prints a sheet: how many bytes of the buffer are its text.
+#[no_mangle]
+pub extern "C" fn desk_print_sheet(sheet: &[u8], out: &mut [u8; 65536]) -> u64
+    ensures { λ r. ⌜ (r ≡ length (textOf (now (sheet .entry)))) × (now (out .exit) ≡ laid (textOf (now (sheet .entry))) (now (out .entry))) ⌝ }
+{
+    report::print_sheet(sheet, out) as u64
+}

@@ -1,0 +1,19 @@
+-- A ruling in the page's numbers (01, "What goes out").
+use Rattle.facts.specs.Codes.{priceNumber}
+use Rattle.ruling.specs.Reasons.{outcomeNumber, newPrice, countsOf}
+use Rattle.figures.specs.Words.{Ruling, Figures}
+
+-- The outcome 0 no relief, 1 adjusted, 2 nullified, 3 waiting; TP or none; the new price, none
+-- unless adjusted; the contracts adjusted, nullified and standing.
+abbrev pub figuresOf : Ruling → Figures
+figuresOf r =
+    record {
+      trade = r .trade;
+      outcome = outcomeNumber (r .outcome);
+      reason = r .reason;
+      tp = priceNumber (r .tp);
+      price = priceNumber (newPrice (r .outcome));
+      adjusted = countsOf (r .outcome) .adjusted .0;
+      nullified = countsOf (r .outcome) .nullified .0;
+      standing = countsOf (r .outcome) .standing .0;
+    }

@@ -1,0 +1,75 @@
+// A ruling in the page's numbers: what the record, the notices and the printed line have in common. Refuses nothing: every ruling has
+// its figures.
+ghost use mathlib.Core.Path.{_≡_};
+ghost use Rattle.ruling.specs.Reasons.{outcomeNumber, newPrice, countsOf};
+ghost use Rattle.figures.specs.Figures.{figuresOf};
+use facts::Price;
+use ruling::Counts;
+use ruling::Outcome;
+use ruling::Ruling;
+
+// 4,294,967,295 for a price of none; the outcome 0 no relief, 1 adjusted, 2 nullified, 3 waiting.
+pub struct Figures {
+    pub trade: u32,
+    pub outcome: u8,
+    pub reason: u8,
+    pub tp: u32,
+    pub price: u32,
+    pub adjusted: u32,
+    pub nullified: u32,
+    pub standing: u32,
+}
+
+fn outcome_number(o: Outcome) -> u8
+    ensures { λ r. ⌜ r ≡ outcomeNumber o ⌝ }
+{
+    match o {
+        Outcome::NoRelief(_) => 0,
+        Outcome::Adjusted(_) => 1,
+        Outcome::Nullified(_) => 2,
+        Outcome::Waiting(_) => 3,
+    }
+}
+
+fn new_price(o: Outcome) -> Price
+    ensures { λ r. ⌜ r ≡ newPrice o ⌝ }
+{
+    match o {
+        Outcome::NoRelief(_) => Price::None,
+        Outcome::Adjusted(a) => {
+            let price = a.price;
+            Price::At(price)
+        }
+        Outcome::Nullified(_) => Price::None,
+        Outcome::Waiting(_) => Price::None,
+    }
+}
+
+fn counts_of(o: Outcome) -> Counts
+    ensures { λ r. ⌜ r ≡ countsOf o ⌝ }
+{
+    match o {
+        Outcome::NoRelief(c) => c,
+        Outcome::Adjusted(a) => a.counts,
+        Outcome::Nullified(c) => c,
+        Outcome::Waiting(c) => c,
+    }
+}
+
+pub fn figures_of(r: Ruling) -> Figures
+    ensures { λ n. ⌜ n ≡ figuresOf r ⌝ }
+{
+    let outcome = r.outcome;
+    let tp = r.tp;
+    let counts = counts_of(outcome);
+    Figures {
+        trade: r.trade,
+        outcome: outcome_number(outcome),
+        reason: r.reason,
+        tp: facts::price_number(tp),
+        price: facts::price_number(new_price(outcome)),
+        adjusted: counts.adjusted.0,
+        nullified: counts.nullified.0,
+        standing: counts.standing.0,
+    }
+}

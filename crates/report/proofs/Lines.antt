@@ -1,0 +1,74 @@
+-- A case's line by the number that reading it gave, the sheet's text by the test that leads there, and the room that they take.
+use Prim.Native.Nat.{ℕ, _+_, _-_, _*_, _≤_}
+use mathlib.Core.Path.{_≡_, refl, sym, ap}
+use mathlib.Core.Bool.{Bool, true, false}
+use mathlib.Core.List.{List, _++_}
+use native.Mathlib.Omega.{arith}
+use lib.ListN.{length, take, length-append}
+use lib.Seq.{length-take-le}
+use lib.Dec.{eqb}
+use borrow.Author.Tests.{eq-eqb, ne-eqb}
+use borrow.Rule.Slice.PartMut.{midOf, putMid}
+use Rattle.wire.specs.Laid.{laid, row}
+use Rattle.wire.proofs.Laid.{laid-part}
+use Rattle.wire.proofs.Rows.{Ran}
+use Rattle.text.proofs.Decimal.{either}
+use Rattle.cases.specs.Cases.{readingOf}
+use Rattle.ruling.specs.Ruling.{rulingOf}
+use Rattle.figures.specs.Figures.{figuresOf}
+use Rattle.sheet.specs.Sheet.{caseAt, casesIn, ruledIn, wholeCases}
+use Rattle.lines.specs.Lines.{header, ruledLine, refusedLine, endLine, sheetLine}
+use Rattle.lines.proofs.Lengths.{ruled-most, refused-most, end-most}
+use Rattle.report.specs.Words.{Reading}
+use Rattle.report.specs.Report.{caseLine, lineOf, ruledText, textOf}
+
+module _ (k : ℕ) (r : Reading) where
+  pub line-ruled : r .refusal ≡ 0 → caseLine k r ≡ ruledLine (figuresOf (rulingOf (r .facts)))
+  unfolding caseLine
+  line-ruled h = simp (eq-eqb (r .refusal) 0 h)
+
+  pub line-refused : (r .refusal ≡ 0 → ⊥) → caseLine k r ≡ refusedLine k (r .refusal)
+  unfolding caseLine
+  line-refused h = simp (ne-eqb (r .refusal) 0 h)
+
+  pub line-most : length (caseLine k r) ≤ 85
+  unfolding caseLine
+  line-most =
+      either (λ (w : List ℕ). length w ≤ 85) (eqb (r .refusal) 0) (ruledLine (figuresOf (rulingOf (r .facts)))) (refusedLine k (r .refusal))
+      (λ _. ruled-most (figuresOf (rulingOf (r .facts))))
+      (λ _. refused-most k (r .refusal))
+
+pub bytes-most : (b k : ℕ) (r : Reading) → b ≡ length (caseLine k r) → b ≤ 85
+bytes-most b k r e = omega (arith, line-most k r)
+
+pub end-long : (b ruled refused : ℕ) → b ≡ length (endLine ruled refused) → b ≤ 85
+end-long b ruled refused e = omega (arith, end-most ruled refused)
+
+module _ (s : List ℕ) where
+  pub text-whole : wholeCases s ≡ true → textOf s ≡ ruledText s (casesIn s)
+  unfolding textOf
+  text-whole h = simp h
+
+  pub text-refused : wholeCases s ≡ false → textOf s ≡ sheetLine 10
+  unfolding textOf
+  text-refused h = simp h
+
+-- what is printed, and what whoever writes the first k bytes out must know of them
+pub printed : (t w l m : List ℕ) (k : ℕ) → t ≡ w → Ran w l k m → length w ≤ length m
+    → ((k ≡ length t) × (m ≡ laid t l)) × ((k ≤ length m) × (k ≡ length (take k m)))
+printed t w l m k e r h =
+    let n : k ≤ length m = omega (arith, r .0) in
+    rw e (r, (n, sym (length-take-le k m n)))
+
+-- the header, then the lines in the part after it, then END in the part after them
+pub whole-text : (s l m y z : List ℕ) (n start bytes ruled last : ℕ)
+    → (start ≡ length header) × (m ≡ laid header l)
+    → (bytes ≡ length (row (lineOf s) n)) × (ruled ≡ ruledIn s n) × (y ≡ laid (row (lineOf s) n) (midOf start (length m - start) m))
+    → (last ≡ length (endLine ruled (n - ruled))) × (z ≡ laid (endLine ruled (n - ruled)) (midOf (start + bytes) (length (putMid start (length m - start) m y) - (start + bytes)) (putMid start (length m - start) m y)))
+    → Ran (ruledText s n) l (start + bytes + last) (putMid (start + bytes) (length (putMid start (length m - start) m y) - (start + bytes)) (putMid start (length m - start) m y) z)
+whole-text s l m y z n start bytes ruled last h c e =
+    let w = header ++ row (lineOf s) n in
+    let v = endLine ruled (n - ruled) in
+    let at : start + bytes ≡ length w = omega (arith, length-append header (row (lineOf s) n)) in
+    let both = laid-part header (row (lineOf s) n) l m y start (h .1) (h .0) (c .2) in
+    rw (← c .1) (omega (arith, length-append w v), laid-part w v l _ z (start + bytes) both at (e .1))

@@ -1,0 +1,77 @@
+// The report of a sheet: what the printer writes, as bytes in a lent buffer. A sheet of whole cases, 600 at most, has the header, a line for
+// each case and END; any other has the one line that refuses it, with 10. Nothing is asked: the buffer holds the longest report.
+ghost use mathlib.Core.Path.{_≡_};
+ghost use Prim.Native.Nat.{_*_, _≤_};
+ghost use lib.ListN.{length, take};
+ghost use Rattle.wire.specs.Laid.{laid, row};
+ghost use Rattle.cases.specs.Cases.{readingOf};
+ghost use Rattle.sheet.specs.Sheet.{casesIn, ruledOne, ruledIn};
+ghost use Rattle.report.specs.Report.{caseLine, lineOf, ruledText, textOf};
+
+// What has been printed: how many bytes, and how many cases were ruled.
+struct Printed {
+    bytes: usize,
+    ruled: usize,
+}
+
+// The line of one case, at the start of the buffer.
+fn put_case(case: &[u8], index: u32, out: &mut [u8]) -> Printed
+    requires { ⌜ 85 ≤ length (now out) ⌝ }
+    ensures { λ r. ⌜ (r .bytes ≡ length (caseLine index (readingOf (now (case .entry))))) × (r .ruled ≡ ruledOne (readingOf (now (case .entry)))) × (now (out .exit) ≡ laid (caseLine index (readingOf (now (case .entry)))) (now (out .entry))) ⌝ }
+{
+    let reading = cases::read_case(case);
+    if reading.refusal == 0 {
+        let n = figures::figures_of(ruling::rule(reading.facts));
+        return Printed {
+            bytes: lines::put_ruled(out, n),
+            ruled: 1,
+        };
+    }
+    Printed {
+        bytes: lines::put_refused(out, index, reading.refusal),
+        ruled: 0,
+    }
+}
+
+// The lines of the cases, one after the other.
+fn put_cases(sheet: &[u8], out: &mut [u8]) -> Printed
+    requires { ⌜ (length (now sheet) ≤ 52800) × (casesIn (now sheet) * 85 ≤ length (now out)) ⌝ }
+    ensures { λ r. ⌜ (r .bytes ≡ length (row (lineOf (now (sheet .entry))) (casesIn (now (sheet .entry))))) × (r .ruled ≡ ruledIn (now (sheet .entry)) (casesIn (now (sheet .entry)))) × (now (out .exit) ≡ laid (row (lineOf (now (sheet .entry))) (casesIn (now (sheet .entry)))) (now (out .entry))) ⌝ }
+    ensures { λ r. ⌜ (r .bytes ≤ casesIn (now (sheet .entry)) * 85) × (r .ruled ≤ casesIn (now (sheet .entry))) ⌝ }
+{
+    let n = sheet.len() / 88;
+    let mut i: usize = 0;
+    let mut at: usize = 0;
+    let mut ruled: usize = 0;
+    while i < n {
+        let from = i * 88;
+        let p = put_case(&sheet[from..from + 88], i as u32, &mut out[at..]);
+        at += p.bytes;
+        ruled += p.ruled;
+        i += 1;
+    }
+    Printed { bytes: at, ruled }
+}
+
+// The header, the lines, END.
+fn put_whole(sheet: &[u8], out: &mut [u8]) -> usize
+    requires { ⌜ (length (now sheet) ≤ 52800) × (65536 ≤ length (now out)) ⌝ }
+    ensures { λ r. ⌜ (r ≡ length (ruledText (now (sheet .entry)) (casesIn (now (sheet .entry))))) × (now (out .exit) ≡ laid (ruledText (now (sheet .entry)) (casesIn (now (sheet .entry)))) (now (out .entry))) × (r ≤ 65536) ⌝ }
+{
+    let start = lines::put_header(out);
+    let p = put_cases(sheet, &mut out[start..]);
+    let end = start + p.bytes;
+    let n = sheet.len() / 88;
+    end + lines::put_end(&mut out[end..], p.ruled as u32, (n - p.ruled) as u32)
+}
+
+// Prints a sheet over the start of the buffer; every byte after the text stays. Answers how many bytes the text has.
+pub fn print_sheet(sheet: &[u8], out: &mut [u8; 65536]) -> usize
+    ensures { λ r. ⌜ (r ≡ length (textOf (now (sheet .entry)))) × (now (out .exit) ≡ laid (textOf (now (sheet .entry))) (now (out .entry))) ⌝ }
+    ensures { λ r. ⌜ (r ≤ length (now (out .exit))) × (r ≡ length (take r (now (out .exit)))) ⌝ }
+{
+    if sheet::whole_cases(sheet) {
+        return put_whole(sheet, out);
+    }
+    lines::put_sheet(out, 10)
+}
