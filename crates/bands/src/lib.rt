@@ -16,72 +16,87 @@ pub struct Band {
     pub adjustment: Mills,
 }
 
-// The table, in mills.
-const BANDS: [Band; 7] = [
-    // TP below $2
-    Band {
-        top: Mills(1999),
-        obvious: Mills(250),
-        catastrophic: Mills(1000),
-        adjustment: Mills(1000),
-    },
-    // 2 to 5
-    Band {
-        top: Mills(5000),
-        obvious: Mills(400),
-        catastrophic: Mills(2000),
-        adjustment: Mills(2000),
-    },
-    // above 5 to 10
-    Band {
-        top: Mills(10000),
-        obvious: Mills(500),
-        catastrophic: Mills(3000),
-        adjustment: Mills(3000),
-    },
-    // above 10 to 20
-    Band {
-        top: Mills(20000),
-        obvious: Mills(800),
-        catastrophic: Mills(5000),
-        adjustment: Mills(5000),
-    },
-    // above 20 to 50
-    Band {
-        top: Mills(50000),
-        obvious: Mills(1000),
-        catastrophic: Mills(7000),
-        adjustment: Mills(7000),
-    },
-    // above 50 to 100
-    Band {
-        top: Mills(100000),
-        obvious: Mills(1000),
-        catastrophic: Mills(10000),
-        adjustment: Mills(10000),
-    },
-    // above 100
-    Band {
-        top: Mills(9999999),
-        obvious: Mills(1000),
-        catastrophic: Mills(15000),
-        adjustment: Mills(15000),
-    },
-];
+// The table, in mills: a row for each line of the page.
+
+// TP below $2
+const BELOW_2: Band = Band {
+    top: Mills(1999),
+    obvious: Mills(250),
+    catastrophic: Mills(1000),
+    adjustment: Mills(1000),
+};
+
+// 2 to 5
+const TO_5: Band = Band {
+    top: Mills(5000),
+    obvious: Mills(400),
+    catastrophic: Mills(2000),
+    adjustment: Mills(2000),
+};
+
+// above 5 to 10
+const TO_10: Band = Band {
+    top: Mills(10000),
+    obvious: Mills(500),
+    catastrophic: Mills(3000),
+    adjustment: Mills(3000),
+};
+
+// above 10 to 20
+const TO_20: Band = Band {
+    top: Mills(20000),
+    obvious: Mills(800),
+    catastrophic: Mills(5000),
+    adjustment: Mills(5000),
+};
+
+// above 20 to 50
+const TO_50: Band = Band {
+    top: Mills(50000),
+    obvious: Mills(1000),
+    catastrophic: Mills(7000),
+    adjustment: Mills(7000),
+};
+
+// above 50 to 100
+const TO_100: Band = Band {
+    top: Mills(100000),
+    obvious: Mills(1000),
+    catastrophic: Mills(10000),
+    adjustment: Mills(10000),
+};
+
+// above 100
+const ABOVE_100: Band = Band {
+    top: Mills(9999999),
+    obvious: Mills(1000),
+    catastrophic: Mills(15000),
+    adjustment: Mills(15000),
+};
 
 // The row for a TP: the first whose top is at least TP, and the last for every TP above the others.
 pub fn band_of(tp: Mills) -> Band
     ensures { λ r. ⌜ r ≡ bandOf tp ⌝ }
 {
-    let mut i = 0;
-    while i < 6 {
-        let b = BANDS[i];
-        if tp.0 <= b.top.0 {
-            return b;
-        }
-        i += 1;
+    if tp.0 <= BELOW_2.top.0 {
+        return BELOW_2;
     }
-    BANDS[6]
+    if tp.0 <= TO_5.top.0 {
+        return TO_5;
+    }
+    if tp.0 <= TO_10.top.0 {
+        return TO_10;
+    }
+    if tp.0 <= TO_20.top.0 {
+        return TO_20;
+    }
+    if tp.0 <= TO_50.top.0 {
+        return TO_50;
+    }
+    if tp.0 <= TO_100.top.0 {
+        return TO_100;
+    }
+    ABOVE_100
 }
 
 // How far an obvious error moves TP.

@@ -1,67 +1,37 @@
--- The invariant: the rows that are left give the answer that all of them give.
-use Prim.Native.Nat.{_≤_, _-_}
-use mathlib.Core.Path.{_≡_, refl, sym, _∙_}
-use mathlib.Core.List.{[]}
-use native.Mathlib.Omega.{arith}
-use lib.ListN.{drop, drop-of-length-le}
-use Rattle.bands.specs.Table.{among, rows, lastRow, bandOf}
-use Rattle.bands.proofs.Rows.{here, past}
+-- Each row serves the prices that no row before it does.
+use borrow.Author.Tests.{le-leb, lt-leb}
+use Rattle.bands.specs.Table.{bandOf}
 use Rattle.bands.proofs.band_of.Statement.{statement}
 use Rattle.bands.proofs.band_of.Tie as tie
 
-abbrev Inv-loop : tie.InvT-loop
-Inv-loop tp i₀ i = (i ≤ 6) × (among lastRow (drop i rows) tp ≡ bandOf tp)
-
-abbrev μ-loop : tie.MeasureT-loop
-μ-loop tp i₀ i = 6 - i
-
-loop-holds : tie.Need-loop-holds Inv-loop μ-loop
+returns : tie.Need-returns
 unfolding bandOf
-loop-holds c = (omega arith, refl)
+returns c = simp (le-leb _ _ (c .if1 .taken))
 
-mul-b : tie.Need-mul-b Inv-loop μ-loop
-mul-b c = omega arith
+returns-2 : tie.Need-returns-2
+unfolding bandOf
+returns-2 c = simp (le-leb _ _ (c .if2 .taken), lt-leb _ _ (c .before .before .before .if1 .left))
 
-array-copy-out-b : tie.Need-array-copy-out-b Inv-loop μ-loop
-array-copy-out-b c = omega arith
+returns-3 : tie.Need-returns-3
+unfolding bandOf
+returns-3 c = simp (le-leb _ _ (c .if3 .taken), lt-leb _ _ (c .before .before .before .if2 .left), lt-leb _ _ (c .before .before .before .before .before .before .if1 .left))
 
-returns : tie.Need-returns Inv-loop μ-loop
-returns c =
-    let l = c .before .before .before .before .before .loop in
-    sym (here lastRow rows _ (l .i) _ (omega arith) (c .if1 .taken)) ∙ l .inv .1
+returns-4 : tie.Need-returns-4
+unfolding bandOf
+returns-4 c = simp (le-leb _ _ (c .if4 .taken), lt-leb _ _ (c .before .before .before .if3 .left), lt-leb _ _ (c .before .before .before .before .before .before .if2 .left), lt-leb _ _ (c .before .before .before .before .before .before .before .before .before .if1 .left))
 
-add-i : tie.Need-add-i Inv-loop μ-loop
-add-i c = omega arith
+returns-5 : tie.Need-returns-5
+unfolding bandOf
+returns-5 c = simp (le-leb _ _ (c .if5 .taken), lt-leb _ _ (c .before .before .before .if4 .left), lt-leb _ _ (c .before .before .before .before .before .before .if3 .left), lt-leb _ _ (c .before .before .before .before .before .before .before .before .before .if2 .left), lt-leb _ _ (c .before .before .before .before .before .before .before .before .before .before .before .before .if1 .left))
 
-loop-less : tie.Need-loop-less Inv-loop μ-loop
-loop-less c = omega arith
+returns-6 : tie.Need-returns-6
+unfolding bandOf
+returns-6 c = simp (le-leb _ _ (c .if6 .taken), lt-leb _ _ (c .before .before .before .if5 .left), lt-leb _ _ (c .before .before .before .before .before .before .if4 .left), lt-leb _ _ (c .before .before .before .before .before .before .before .before .before .if3 .left), lt-leb _ _ (c .before .before .before .before .before .before .before .before .before .before .before .before .if2 .left), lt-leb _ _ (c .before .before .before .before .before .before .before .before .before .before .before .before .before .before .before .if1 .left))
 
-loop-again : tie.Need-loop-again Inv-loop μ-loop
-loop-again c =
-    let l = c .before .before .before .before .before .loop in
-    (omega arith, past lastRow rows _ (l .i) _ (omega arith) (c .if1 .left) ∙ l .inv .1)
-
-array-copy-out-result : tie.Need-array-copy-out-result Inv-loop μ-loop
-array-copy-out-result c = omega arith
-
-returns-2 : tie.Need-returns-2 Inv-loop μ-loop
-returns-2 c =
-    let l = c .before .before .loop in
-    let e : drop (l .i) rows ≡ [] = drop-of-length-le rows {i = l .i} (omega arith) in
-    rw e at (l .inv .1)
+returns-7 : tie.Need-returns-7
+unfolding bandOf
+returns-7 c = simp (lt-leb _ _ (c .if6 .left), lt-leb _ _ (c .before .before .before .if5 .left), lt-leb _ _ (c .before .before .before .before .before .before .if4 .left), lt-leb _ _ (c .before .before .before .before .before .before .before .before .before .if3 .left), lt-leb _ _ (c .before .before .before .before .before .before .before .before .before .before .before .before .if2 .left), lt-leb _ _ (c .before .before .before .before .before .before .before .before .before .before .before .before .before .before .before .if1 .left))
 
 pub band-of-spec : {M : Type 1} → statement M
 band-of-spec =
-    tie.close
-    (tie.spec
-    Inv-loop
-    μ-loop
-    loop-holds
-    mul-b
-    array-copy-out-b
-    returns
-    add-i
-    loop-less
-    loop-again
-    array-copy-out-result
-    returns-2)
+    tie.close (tie.spec returns returns-2 returns-3 returns-4 returns-5 returns-6 returns-7)

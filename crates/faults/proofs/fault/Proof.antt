@@ -1,62 +1,24 @@
 use Rattle.refusals.specs.Tests.{faultOf}
+use mathlib.Core.Path.{sym, _∙_}
 use borrow.Author.Needs.{needs}
 use Rattle.faults.proofs.fault.Statement.{statement}
 use Rattle.faults.proofs.fault.Tie as tie
 
-agreement-ok-requires : tie.Need-agreement-ok-requires
-agreement-ok-requires c κs = search needs
-
-unless-requires : tie.Need-unless-requires
-unless-requires c κs = search needs
-
-limits-ok-requires : tie.Need-limits-ok-requires
-limits-ok-requires c κs = search needs
-
-unless-requires-2 : tie.Need-unless-requires-2
-unless-requires-2 c κs = search needs
-
-times-ok-requires : tie.Need-times-ok-requires
-times-ok-requires c κs = search needs
-
-unless-requires-3 : tie.Need-unless-requires-3
-unless-requires-3 c κs = search needs
-
-counts-ok-requires : tie.Need-counts-ok-requires
-counts-ok-requires c κs = search needs
-
-unless-requires-4 : tie.Need-unless-requires-4
-unless-requires-4 c κs = search needs
-
-prices-ok-requires : tie.Need-prices-ok-requires
-prices-ok-requires c κs = search needs
-
-unless-requires-5 : tie.Need-unless-requires-5
-unless-requires-5 c κs = search needs
-
 codes-ok-requires : tie.Need-codes-ok-requires
 codes-ok-requires c κs = search needs
 
-unless-requires-6 : tie.Need-unless-requires-6
-unless-requires-6 c κs = search needs
+later-fault-requires : tie.Need-later-fault-requires
+later-fault-requires c κs = search needs
 
 returns : tie.Need-returns
 unfolding faultOf
-returns c = cc
+returns c =
+    let t = c .before in
+    rw (sym (t .before .codes-ok .ensures) ∙ t .if1 .taken) (c .later-fault .ensures)
+
+returns-2 : tie.Need-returns-2
+unfolding faultOf
+returns-2 c = simp (sym (c .before .codes-ok .ensures) ∙ c .if1 .left)
 
 pub fault-spec : {M : Type 1} → statement M
-fault-spec =
-    tie.close
-    (tie.spec
-    agreement-ok-requires
-    unless-requires
-    limits-ok-requires
-    unless-requires-2
-    times-ok-requires
-    unless-requires-3
-    counts-ok-requires
-    unless-requires-4
-    prices-ok-requires
-    unless-requires-5
-    codes-ok-requires
-    unless-requires-6
-    returns)
+fault-spec = tie.close (tie.spec codes-ok-requires later-fault-requires returns returns-2)
