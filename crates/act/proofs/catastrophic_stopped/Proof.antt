@@ -1,3 +1,5 @@
+use mathlib.Core.Path.{ap₂}
+use mathlib.Core.Bool.{_||_}
 use Rattle.act.specs.Limits.{catastrophicStopped}
 use borrow.Author.Needs.{needs}
 use Rattle.act.proofs.catastrophic_stopped.Statement.{statement}
@@ -11,7 +13,7 @@ customer-stopped-requires-2 c κs = search needs
 
 returns : tie.Need-returns
 unfolding catastrophicStopped
-returns c = cc
+returns c = ap₂ _||_ (c .before .customer-stopped .ensures) (c .customer-stopped2 .ensures)
 
 pub catastrophic-stopped-spec : {M : Type 1} → statement M
 catastrophic-stopped-spec =

@@ -1,3 +1,5 @@
+use mathlib.Core.Path.{ap₂}
+use mathlib.Core.Bool.{_&&_}
 use borrow.Author.Needs.{needs}
 use Rattle.act.proofs.customer_stopped.Statement.{statement}
 use Rattle.act.proofs.customer_stopped.Tie as tie
@@ -9,7 +11,7 @@ violates-requires : tie.Need-violates-requires
 violates-requires c κs = search needs
 
 returns : tie.Need-returns
-returns c = cc
+returns c = ap₂ _&&_ (c .before .is-customer .ensures) (c .violates .ensures)
 
 pub customer-stopped-spec : {M : Type 1} → statement M
 customer-stopped-spec = tie.close (tie.spec is-customer-requires violates-requires returns)
