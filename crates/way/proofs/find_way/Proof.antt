@@ -1,7 +1,12 @@
-use Rattle.way.specs.Way.{wayOf}
+use mathlib.Core.Path.{_≡_, _∙_}
+use mathlib.Core.Bool.{Bool}
+use Rattle.way.specs.Way.{firstOpen, wayOf}
 use borrow.Author.Needs.{needs}
 use Rattle.way.proofs.find_way.Statement.{statement}
 use Rattle.way.proofs.find_way.Tie as tie
+
+first : {o p c o' p' c' : Bool} → o ≡ o' → p ≡ p' → c ≡ c' → firstOpen o p c ≡ firstOpen o' p' c'
+first obvious opening catastrophic = cc
 
 obvious-open-requires : tie.Need-obvious-open-requires
 obvious-open-requires c κs = search needs
@@ -17,7 +22,9 @@ first-open-requires c κs = search needs
 
 returns : tie.Need-returns
 unfolding wayOf
-returns c = cc
+returns c =
+    c .first-open .ensures
+    ∙ first (c .before .before .before .obvious-open .ensures) (c .before .before .opening-open .ensures) (c .before .catastrophic-open .ensures)
 
 pub find-way-spec : {M : Type 1} → statement M
 find-way-spec =

@@ -1,3 +1,7 @@
+use mathlib.Core.Path.{ap, ap₂, _∙_}
+use mathlib.Core.Bool.{_&&_}
+use Rattle.way.specs.Words.{Seconds}
+use Rattle.way.specs.Times.{within}
 use Rattle.way.specs.Way.{obviousOpen}
 use borrow.Author.Needs.{needs}
 use Rattle.way.proofs.obvious_open.Statement.{statement}
@@ -14,7 +18,10 @@ within-requires c κs = search needs
 
 returns : tie.Need-returns
 unfolding obviousOpen
-returns c = cc
+returns c =
+    let a = c .before .before .before .args in
+    ap₂ _&&_ (c .before .before .is-trade-date .ensures)
+    (c .within .ensures ∙ ap (λ (t : Seconds). within t (a .executed) (a .filed)) (c .before .obvious-time .ensures))
 
 pub obvious-open-spec : {M : Type 1} → statement M
 obvious-open-spec =

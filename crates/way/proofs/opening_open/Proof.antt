@@ -1,3 +1,5 @@
+use mathlib.Core.Path.{refl, ap, ap₂}
+use mathlib.Core.Bool.{not, _&&_}
 use Rattle.way.specs.Way.{openingOpen}
 use borrow.Author.Needs.{needs}
 use Rattle.way.proofs.opening_open.Statement.{statement}
@@ -17,7 +19,10 @@ no-later-requires c κs = search needs
 
 returns : tie.Need-returns
 unfolding openingOpen
-returns c = cc
+returns c =
+    let dated = ap₂ _&&_ (c .before .before .before .is-trade-date .ensures) refl in
+    let asked = ap₂ _&&_ dated (c .before .before .is-customer .ensures) in
+    ap₂ _&&_ (ap₂ _&&_ asked (ap not (c .before .within .ensures))) (c .no-later .ensures)
 
 pub opening-open-spec : {M : Type 1} → statement M
 opening-open-spec =
