@@ -1,3 +1,5 @@
+use mathlib.Core.Path.{ap₂}
+use mathlib.Core.Bool.{_&&_}
 use Rattle.refusals.specs.Tests.{codeOk}
 use borrow.Author.Needs.{needs}
 use Rattle.faults.proofs.code_ok.Statement.{statement}
@@ -29,7 +31,10 @@ code-byte-ok-requires-4 c κs = search needs
 
 returns : tie.Need-returns
 unfolding codeOk
-returns c = cc
+returns c =
+    ap₂ _&&_
+    (ap₂ _&&_ (ap₂ _&&_ (c .before .before .before .code-byte-ok .ensures) (c .before .before .code-byte-ok2 .ensures)) (c .before .code-byte-ok3 .ensures))
+    (c .code-byte-ok4 .ensures)
 
 pub code-ok-spec : {M : Type 1} → statement M
 code-ok-spec =

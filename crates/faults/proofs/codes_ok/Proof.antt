@@ -1,3 +1,5 @@
+use mathlib.Core.Path.{ap₂}
+use mathlib.Core.Bool.{_&&_}
 use Rattle.refusals.specs.Tests.{codesOk}
 use borrow.Author.Needs.{needs}
 use Rattle.faults.proofs.codes_ok.Statement.{statement}
@@ -11,7 +13,7 @@ code-ok-requires-2 c κs = search needs
 
 returns : tie.Need-returns
 unfolding codesOk
-returns c = cc
+returns c = ap₂ _&&_ (c .before .code-ok .ensures) (c .code-ok2 .ensures)
 
 pub codes-ok-spec : {M : Type 1} → statement M
 codes-ok-spec = tie.close (tie.spec code-ok-requires code-ok-requires-2 returns)

@@ -1,3 +1,5 @@
+use mathlib.Core.Path.{ap₂}
+use mathlib.Core.Bool.{_&&_}
 use Rattle.refusals.specs.Tests.{pricesOk}
 use borrow.Author.Needs.{needs}
 use Rattle.faults.proofs.prices_ok.Statement.{statement}
@@ -20,7 +22,9 @@ price-ok-requires-3 c κs = search needs
 
 returns : tie.Need-returns
 unfolding pricesOk
-returns c = cc
+returns c =
+    let quoted = ap₂ _&&_ (c .before .before .before .before .mills-ok .ensures) (c .before .before .before .quotes-priced .ensures) in
+    ap₂ _&&_ (ap₂ _&&_ (ap₂ _&&_ quoted (c .before .before .price-ok .ensures)) (c .before .price-ok2 .ensures)) (c .price-ok3 .ensures)
 
 pub prices-ok-spec : {M : Type 1} → statement M
 prices-ok-spec =

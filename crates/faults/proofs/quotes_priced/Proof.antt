@@ -1,3 +1,5 @@
+use mathlib.Core.Path.{ap₂}
+use mathlib.Core.Bool.{_&&_}
 use Rattle.refusals.specs.Tests.{quotesPriced}
 use borrow.Author.Needs.{needs}
 use Rattle.faults.proofs.quotes_priced.Statement.{statement}
@@ -14,7 +16,7 @@ price-ok-requires-3 c κs = search needs
 
 returns : tie.Need-returns
 unfolding quotesPriced
-returns c = cc
+returns c = ap₂ _&&_ (ap₂ _&&_ (c .before .before .price-ok .ensures) (c .before .price-ok2 .ensures)) (c .price-ok3 .ensures)
 
 pub quotes-priced-spec : {M : Type 1} → statement M
 quotes-priced-spec =
