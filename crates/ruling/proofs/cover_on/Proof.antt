@@ -1,5 +1,3 @@
-use mathlib.Core.Path.{_≡_}
-use Rattle.ruling.specs.Words.{Opening}
 use borrow.Author.Needs.{needs}
 use Rattle.ruling.proofs.cover_on.Statement.{statement}
 use Rattle.ruling.proofs.cover_on.Tie as tie
@@ -20,7 +18,7 @@ returns : tie.Need-returns
 returns c = search needs
 
 returns-2 : tie.Need-returns-2
-returns-2 c = let w : c .before .before .before .args .way ≡ Opening = cc in simp w (c .covered-by .ensures)
+returns-2 c = simp (c .before .enum-told2 .given .1) (c .covered-by .ensures)
 
 returns-3 : tie.Need-returns-3
 returns-3 c = search needs

@@ -1,9 +1,27 @@
 use mathlib.Core.Path.{_≡_, ap, _∙_}
-use Rattle.ruling.specs.Ruling.{ruledOn, ruledBy}
-use Rattle.ruling.specs.Words.{Obvious, Opening, Catastrophic}
+use mathlib.Core.Bool.{true, false}
+use Rattle.ruling.specs.Ruling.{noRelief, ruledOn, ruledBy}
+use Rattle.ruling.specs.Words.{None, Facts, Way, Obvious, Opening, Catastrophic, Ruling}
 use borrow.Author.Needs.{needs}
 use Rattle.ruling.proofs.rule_by.Statement.{statement}
 use Rattle.ruling.proofs.rule_by.Tie as tie
+
+module _ (f : Facts) {way : Way} {r : Ruling} where
+  by-obvious : way ≡ Obvious → r ≡ ruledOn f way → r ≡ ruledBy f way
+  unfolding ruledBy
+  by-obvious w e = simp w (e ∙ ap (ruledOn f) w)
+
+  by-opening : way ≡ Opening → r ≡ ruledOn f way → r ≡ ruledBy f way
+  unfolding ruledBy
+  by-opening w e = simp w (e ∙ ap (ruledOn f) w)
+
+  decided : way ≡ Catastrophic → f .request .decided ≡ true → r ≡ noRelief (f .trade) 3 None → r ≡ ruledBy f way
+  unfolding ruledBy
+  decided w d e = simp (w, d) e
+
+  undecided : way ≡ Catastrophic → f .request .decided ≡ false → r ≡ ruledOn f way → r ≡ ruledBy f way
+  unfolding ruledBy
+  undecided w d e = simp (w, d) (e ∙ ap (ruledOn f) w)
 
 enum-told : tie.Need-enum-told
 enum-told c = search needs
@@ -24,31 +42,23 @@ no-relief-requires : tie.Need-no-relief-requires
 no-relief-requires c κs = search needs
 
 returns : tie.Need-returns
-unfolding ruledBy
 returns c = let a = c .before .before .before .before .args in
-    let w : a .way ≡ Catastrophic = cc in
-    simp (w, c .before .if1 .taken) (c .no-relief .ensures)
+    decided (a .f) (c .before .before .enum-told3 .given .1) (c .before .if1 .taken) (c .no-relief .ensures)
 
 rule-on-requires-3 : tie.Need-rule-on-requires-3
 rule-on-requires-3 c κs = search needs
 
 returns-2 : tie.Need-returns-2
-unfolding ruledBy
 returns-2 c = let a = c .before .before .before .args in
-    let w : a .way ≡ Obvious = cc in
-    simp w (c .rule-on .ensures ∙ ap (ruledOn (a .f)) w)
+    by-obvious (a .f) (c .before .enum-told .given .1) (c .rule-on .ensures)
 
 returns-3 : tie.Need-returns-3
-unfolding ruledBy
 returns-3 c = let a = c .before .before .before .args in
-    let w : a .way ≡ Opening = cc in
-    simp w (c .rule-on2 .ensures ∙ ap (ruledOn (a .f)) w)
+    by-opening (a .f) (c .before .enum-told2 .given .1) (c .rule-on2 .ensures)
 
 returns-4 : tie.Need-returns-4
-unfolding ruledBy
 returns-4 c = let a = c .before .before .before .before .args in
-    let w : a .way ≡ Catastrophic = cc in
-    simp (w, c .before .if1 .left) (c .rule-on3 .ensures ∙ ap (ruledOn (a .f)) w)
+    undecided (a .f) (c .before .before .enum-told3 .given .1) (c .before .if1 .left) (c .rule-on3 .ensures)
 
 pub rule-by-spec : {M : Type 1} → statement M
 rule-by-spec =

@@ -1,10 +1,15 @@
-use mathlib.Core.Path.{_≡_, sym, _∙_}
+use mathlib.Core.Path.{_≡_, sym, ap, _∙_}
 use Rattle.theory.specs.Theory.{theoryOf}
-use Rattle.ruling.specs.Ruling.{ruledOn}
-use Rattle.ruling.specs.Words.{Found, Missing}
+use Rattle.ruling.specs.Ruling.{ruledFrom, ruledOn}
+use Rattle.ruling.specs.Words.{Facts, Way, Theory, Ruling}
 use borrow.Author.Needs.{needs}
 use Rattle.ruling.proofs.rule_on.Statement.{statement}
 use Rattle.ruling.proofs.rule_on.Tie as tie
+
+from : (f : Facts) (way : Way) {found t : Theory} {r : Ruling}
+    → found ≡ theoryOf (f .request .side) (f .market) → found ≡ t → r ≡ ruledFrom f way t → r ≡ ruledOn f way
+unfolding ruledOn
+from f way found case ruled = ruled ∙ ap (ruledFrom f way) (sym case ∙ found)
 
 find-theory-requires : tie.Need-find-theory-requires
 find-theory-requires c κs = search needs
@@ -19,19 +24,17 @@ wait-requires : tie.Need-wait-requires
 wait-requires c κs = search needs
 
 returns : tie.Need-returns
-unfolding ruledOn
-returns c = let f = c .before .before .before .before .before .before .args .f in
-    let t : theoryOf (f .request .side) (f .market) ≡ Missing = cc in
-    simp t (c .wait .ensures)
+returns c =
+    let a = c .before .before .before .before .before .before .args in
+    from (a .f) (a .way) (c .before .before .before .find-theory .ensures .0) (c .before .enum-told .given .1) (c .wait .ensures)
 
 rule-at-requires : tie.Need-rule-at-requires
 rule-at-requires c κs = search needs
 
 returns-2 : tie.Need-returns-2
-unfolding ruledOn
-returns-2 c = let f = c .before .before .before .before .before .before .before .args .f in
-    let t : theoryOf (f .request .side) (f .market) ≡ Found _ = sym (c .before .before .before .before .find-theory .ensures .0) ∙ c .before .before .found .given .1 in
-    simp t (c .rule-at .ensures)
+returns-2 c =
+    let a = c .before .before .before .before .before .before .before .args in
+    from (a .f) (a .way) (c .before .before .before .before .find-theory .ensures .0) (c .before .before .found .given .1) (c .rule-at .ensures)
 
 pub rule-on-spec : {M : Type 1} → statement M
 rule-on-spec =

@@ -1,6 +1,6 @@
 use Rattle.ruling.specs.Ruling.{carriedOut}
 use mathlib.Core.Path.{_≡_, ap, _∙_}
-use Rattle.ruling.specs.Words.{Ignored, Repriced, Undone}
+use Rattle.ruling.specs.Words.{Ignored, Repriced}
 use borrow.Author.Needs.{needs}
 use Rattle.ruling.proofs.settle.Statement.{statement}
 use Rattle.ruling.proofs.settle.Tie as tie
@@ -42,7 +42,7 @@ returns-2 : tie.Need-returns-2
 returns-2 c = let e : c .before .before .before .before .before .before .args .heeded ≡ Repriced _ = c .before .before .heeded .given .1 in simp e (c .adjust .ensures)
 
 returns-3 : tie.Need-returns-3
-returns-3 c = let e : c .before .before .before .before .before .args .heeded ≡ Undone = cc in simp e (c .nullify .ensures)
+returns-3 c = simp (c .before .enum-told2 .given .1) (c .nullify .ensures)
 
 pub settle-spec : {M : Type 1} → statement M
 settle-spec =
