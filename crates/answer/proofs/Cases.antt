@@ -1,27 +1,16 @@
 -- What ruling a case answers, by the test that decides.
 use Prim.Native.Nat.{ℕ, _≤_, _<_}
-use mathlib.Core.Path.{_≡_, refl, sym, ap, _∙_}
-use mathlib.Core.Bool.{Bool, true, false}
+use mathlib.Core.Path.{_≡_, refl, sym, _∙_}
 use mathlib.Core.List.{List, []}
 use lib.ListN.{length}
-use lib.Dec.{eqb}
-use borrow.Author.Tests.{le-leb, lt-leb, eq-eqb, ne-eqb, eqb-true, eqb-false}
-use Rattle.wire.specs.Tests.{pick}
+use borrow.Author.Tests.{le-leb, lt-leb, eq-eqb, ne-eqb, eqb-false}
 use Rattle.record.specs.Record.{factsOf}
-use Rattle.cases.specs.Cases.{refusalOf, accepted, refused, readingOf}
-use Rattle.cases.proofs.Laws.{formed, accepted-form, accepted-reading}
+use Rattle.cases.specs.Cases.{refusalOf, readingOf}
+use Rattle.cases.proofs.Laws.{accepts, passed-whole}
 use Rattle.ruling.specs.Ruling.{rulingOf}
 use Rattle.notices.proofs.Built as built
-use Rattle.answer.specs.Words.{Facts, Reading}
+use Rattle.answer.specs.Words.{Facts}
 use Rattle.answer.specs.Answer.{caseRefusalOf, answerOf, caseOf}
-
--- a reading's number is the first test that the bytes fail
-reading-number : (s : List ℕ) → readingOf s .refusal ≡ refusalOf s
-unfolding readingOf refused
-reading-number s = by-test (eqb (refusalOf s) 0) refl where
-  by-test : (t : Bool) → eqb (refusalOf s) 0 ≡ t → pick t (accepted (factsOf s)) (refused (refusalOf s)) .refusal ≡ refusalOf s
-  by-test true h = sym (eqb-true (refusalOf s) 0 h)
-  by-test false h = refl
 
 module _ (s : List ℕ) (room : ℕ) where
   refusing : (n : ℕ) → caseRefusalOf s room ≡ n → (n ≡ 0 → ⊥) → caseOf s room ≡ (n, [])
@@ -44,24 +33,20 @@ module _ (s : List ℕ) (room : ℕ) where
     unfolding caseRefusalOf refusalOf
     same-tests = simp (eq-eqb (length s) 88 whole, le-leb 96 room fits)
 
-    module _ (r : Reading) (e : r ≡ readingOf s) where
-      as-read : caseRefusalOf s room ≡ r .refusal
-      as-read = same-tests ∙ sym (ap (λ (x : Reading). x .refusal) e ∙ reading-number s)
+    module _ (n : ℕ) (e : n ≡ refusalOf s) where
+      as-read : caseRefusalOf s room ≡ n
+      as-read = same-tests ∙ sym e
 
-      pub case-refused : (r .refusal ≡ 0 → ⊥) → caseOf s room ≡ (r .refusal, [])
-      case-refused h = refusing (r .refusal) as-read h
+      pub case-refused : (n ≡ 0 → ⊥) → caseOf s room ≡ (n, [])
+      case-refused h = refusing n as-read h
 
-      pub case-ruled : r .refusal ≡ 0 → caseOf s room ≡ (0, answerOf (r .facts))
+      pub case-ruled : n ≡ 0 → (f : Facts) → f ≡ factsOf s → caseOf s room ≡ (0, answerOf f)
       unfolding caseOf
-      case-ruled h =
-          let facts : r .facts ≡ factsOf s = ap (λ (x : Reading). x .facts) (e ∙ accepted-reading s (ap (λ (x : Reading). x .refusal) (sym e) ∙ h)) in
-          simp (eq-eqb (caseRefusalOf s room) 0 (as-read ∙ h), facts)
+      case-ruled h f says = simp (eq-eqb (caseRefusalOf s room) 0 (as-read ∙ h), says)
 
   -- every accepted case is ruled where there is room
   pub accepted-ruled : readingOf s .refusal ≡ 0 → 96 ≤ room → caseOf s room ≡ (0, answerOf (factsOf s))
-  accepted-ruled e fits =
-      case-ruled (formed s (accepted-form s e) .whole) fits (readingOf s) refl e
-      ∙ ap (λ (x : Reading). (0, answerOf (x .facts))) (accepted-reading s e)
+  accepted-ruled e fits = let z = accepts s e in case-ruled (passed-whole s z) fits (refusalOf s) refl z (factsOf s) refl
 
 -- an answer is 96 bytes
 pub answer-length : (f : Facts) → length (answerOf f) ≡ 96

@@ -29,10 +29,10 @@ pub fn rule_case(case: &[u8], out: &mut [u8]) -> u8
     if out.len() < 96 {
         return 11;
     }
-    let reading = cases::read_case(case);
-    if reading.refusal != 0 {
-        return reading.refusal;
+    let n = cases::check_case(case);
+    if n != 0 {
+        return n;
     }
-    answer_facts(out, reading.facts);
+    answer_facts(out, record::facts_of(case));
     0
 }

@@ -6,10 +6,14 @@ use contract.Lifetimes.{Lfts}
 use denote.Ref.{RefT}
 use Rattle.wire.specs.Exact.{OneAnswer, OneEnd}
 use Rattle.cases.specs.Words.{Facts, Reading}
+use Rattle.cases.proofs.check_case.Reads as check-case
 use Rattle.cases.proofs.read_case.Reads as read-case
 use Rattle.cases.proofs.write_case.Reads as write-case
 
 module _ (κs : Lfts 1) (s : RefT (List ℕ)) where
+  pub check-case-exact : OneAnswer (λ (r : ℕ). check-case.Post κs (s, tt) r (s, tt))
+  check-case-exact r r' p q = p ∙ sym q
+
   pub read-case-exact : OneAnswer (λ (r : Reading). read-case.Post κs (s, tt) r (s, tt))
   read-case-exact r r' p q = p ∙ sym q
 

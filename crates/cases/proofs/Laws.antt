@@ -19,29 +19,29 @@ module _ (s : List ℕ) where
   unfolding refusalOf formFaultOf faultOf
   in-order = first-append (formTests s) (factTests (factsOf s)) (refl, (refl, (refl, tt)))
 
-  accepted-at : refusalOf s ≡ 0 → readingOf s ≡ accepted (factsOf s)
+  -- a reading's number is that of the first test that fails
+  pub read-number : readingOf s .refusal ≡ refusalOf s
+  unfolding readingOf refused
+  read-number = by-test (eqb (refusalOf s) 0) refl where
+    by-test : (t : Bool) → eqb (refusalOf s) 0 ≡ t → pick t (accepted (factsOf s)) (refused (refusalOf s)) .refusal ≡ refusalOf s
+    by-test true h = sym (eqb-true (refusalOf s) 0 h)
+    by-test false h = refl
+
+  pub accepted-at : refusalOf s ≡ 0 → readingOf s ≡ accepted (factsOf s)
   unfolding readingOf
   accepted-at e = simp (eq-eqb (refusalOf s) 0 e)
 
-  refused-at : (n : ℕ) → refusalOf s ≡ n → (n ≡ 0 → ⊥) → readingOf s ≡ refused n
+  pub refused-at : (n : ℕ) → refusalOf s ≡ n → (n ≡ 0 → ⊥) → readingOf s ≡ refused n
   unfolding readingOf
   refused-at n e h = simp (e, ne-eqb n 0 h)
 
   -- the bytes are not a case record: 1 to 3
-  pub refused-form : (n : ℕ) → n ≡ formFaultOf s → (n ≡ 0 → ⊥) → readingOf s ≡ refused n
-  refused-form n e h = refused-at n (in-order ∙ simp (ne-eqb (formFaultOf s) 0 (λ z. h (e ∙ z))) (sym e)) h
+  pub form-decides : (n : ℕ) → n ≡ formFaultOf s → (n ≡ 0 → ⊥) → n ≡ refusalOf s
+  form-decides n e h = sym (in-order ∙ simp (ne-eqb (formFaultOf s) 0 (λ z. h (e ∙ z))) (sym e))
 
-  module _ (n : ℕ) (f : Facts) (formed : formFaultOf s ≡ 0) (says : f ≡ factsOf s) (e : n ≡ faultOf f) where
-    decided : refusalOf s ≡ n
-    decided = in-order ∙ simp (eq-eqb (formFaultOf s) 0 formed) (ap faultOf (sym says) ∙ sym e)
-
-    -- the facts fail a test: 4 to 9
-    pub refused-facts : (n ≡ 0 → ⊥) → readingOf s ≡ refused n
-    refused-facts h = refused-at n decided h
-
-    -- no test fails
-    pub read-facts : n ≡ 0 → readingOf s ≡ accepted f
-    read-facts z = accepted-at (decided ∙ z) ∙ ap accepted (sym says)
+  -- they are, and the facts decide: 4 to 9
+  pub facts-decide : (n : ℕ) (f : Facts) → formFaultOf s ≡ 0 → f ≡ factsOf s → n ≡ faultOf f → n ≡ refusalOf s
+  facts-decide n f formed says e = sym (in-order ∙ simp (eq-eqb (formFaultOf s) 0 formed) (ap faultOf (sym says) ∙ sym e))
 
   -- ---- what passes the tests 1 to 3
   pub record Formed : Type 0 where
@@ -66,17 +66,19 @@ module _ (s : List ℕ) where
 
   -- ---- what is accepted
   pub accepts : readingOf s .refusal ≡ 0 → refusalOf s ≡ 0
-  unfolding readingOf refused
-  accepts e = by-test (eqb (refusalOf s) 0) refl e where
-    by-test : (t : Bool) → eqb (refusalOf s) 0 ≡ t → pick t (accepted (factsOf s)) (refused (refusalOf s)) .refusal ≡ 0 → refusalOf s ≡ 0
-    by-test true h z = eqb-true (refusalOf s) 0 h
-    by-test false h z = z
+  accepts e = sym read-number ∙ e
 
-  pub accepted-form : readingOf s .refusal ≡ 0 → formFaultOf s ≡ 0
-  accepted-form e = by-test (eqb (formFaultOf s) 0) refl (sym in-order ∙ accepts e) where
+  pub passed-form : refusalOf s ≡ 0 → formFaultOf s ≡ 0
+  passed-form e = by-test (eqb (formFaultOf s) 0) refl (sym in-order ∙ e) where
     by-test : (t : Bool) → eqb (formFaultOf s) 0 ≡ t → pick t (faultOf (factsOf s)) (formFaultOf s) ≡ 0 → formFaultOf s ≡ 0
     by-test true h z = eqb-true (formFaultOf s) 0 h
     by-test false h z = z
+
+  pub passed-whole : refusalOf s ≡ 0 → length s ≡ 88
+  passed-whole e = formed (passed-form e) .whole
+
+  pub accepted-form : readingOf s .refusal ≡ 0 → formFaultOf s ≡ 0
+  accepted-form e = passed-form (accepts e)
 
   pub accepted-reading : readingOf s .refusal ≡ 0 → readingOf s ≡ accepted (factsOf s)
   accepted-reading e = accepted-at (accepts e)

@@ -11,7 +11,7 @@ use Rattle.record.specs.Record.{factsOf, recordBytes}
 use Rattle.refusals.specs.Tests.{headOk, zerosOk, listsOk, faultOf}
 use Rattle.cases.specs.Words.{Facts, Reading}
 use Rattle.cases.specs.Cases.{accepted, readingOf, writingOf, Held}
-use Rattle.cases.proofs.Laws.{Formed, formed, well-formed, accepted-form, accepted-reading, accepted-facts, read-facts, writes, writes-facts}
+use Rattle.cases.proofs.Laws.{Formed, formed, well-formed, accepted-form, accepted-reading, accepted-facts, facts-decide, accepted-at, writes, writes-facts}
 use Rattle.cases.proofs.Again.{sound, facts-again}
 use Rattle.cases.proofs.Back.{bytes-back}
 
@@ -35,7 +35,8 @@ written-read f o h e =
     let again = facts-again f h (sound f (w .1)) in
     ap (λ (p : ℕ × List ℕ). readingOf (take 88 (laid (p .1) o))) (writes-facts f (length o) (w .0) (w .1))
     ∙ ap readingOf (take-at (recordBytes f) (drop 88 o) 88 refl)
-    ∙ read-facts (recordBytes f) 0 f (well-formed (recordBytes f) (written-formed f)) (sym again) (sym (w .1)) refl
+    ∙ accepted-at (recordBytes f) (sym (facts-decide (recordBytes f) 0 f (well-formed (recordBytes f) (written-formed f)) (sym again) (sym (w .1))))
+    ∙ ap accepted again
 
 -- Bytes that are accepted, read and written again into any buffer with room, are the same bytes.
 pub read-written : (s : List ℕ) (room : ℕ) → ((i : ℕ) → getD s i 0 < 256) → readingOf s .refusal ≡ 0 → 88 ≤ room

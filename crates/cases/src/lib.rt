@@ -4,7 +4,7 @@
 ghost use mathlib.Core.Path.{_≡_};
 ghost use lib.ListN.{length};
 ghost use Rattle.wire.specs.Laid.{laid};
-ghost use Rattle.cases.specs.Cases.{refused, readingOf, writingOf};
+ghost use Rattle.cases.specs.Cases.{refusalOf, refused, readingOf, writingOf};
 use facts::Facts;
 
 // The facts where refusal is 0; otherwise the number of the first test that failed, beside fixed facts that nobody uses.
@@ -24,22 +24,28 @@ fn refuse(n: u8) -> Reading
     }
 }
 
-// Reads a case: tests 1, then 2 to 9.
-pub fn read_case(s: &[u8]) -> Reading
-    ensures { λ r. ⌜ r ≡ readingOf (now (s .entry)) ⌝ }
+// Tests a case: 1, then 2 to 9. Answers the number of the first test that it fails, or 0.
+pub fn check_case(s: &[u8]) -> u8
+    ensures { λ r. ⌜ r ≡ refusalOf (now (s .entry)) ⌝ }
 {
     let form = refusals::form_fault(s);
     if form != 0 {
-        return refuse(form);
+        return form;
     }
-    let facts = record::facts_of(s);
-    let n = faults::fault(facts);
+    faults::fault(record::facts_of(s))
+}
+
+// Reads a case: its facts, where no test fails.
+pub fn read_case(s: &[u8]) -> Reading
+    ensures { λ r. ⌜ r ≡ readingOf (now (s .entry)) ⌝ }
+{
+    let n = check_case(s);
     if n != 0 {
         return refuse(n);
     }
     Reading {
         refusal: 0,
-        facts: facts,
+        facts: record::facts_of(s),
     }
 }
 

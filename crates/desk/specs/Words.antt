@@ -1,4 +1,3 @@
 -- The declared types that the front speaks of, passed on under their own names.
-pub use Rattle.cases.specs.declared.Reading.{Reading}
 pub use Rattle.sheet.specs.declared.SheetAnswer.{SheetAnswer}
 pub use Rattle.desk.specs.declared.DeskSheet.{DeskSheet}

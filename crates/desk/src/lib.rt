@@ -4,7 +4,7 @@ ghost use mathlib.Core.Path.{_≡_};
 ghost use Prim.Native.Nat.{_≤_};
 ghost use lib.ListN.{length};
 ghost use Rattle.wire.specs.Laid.{laid};
-ghost use Rattle.cases.specs.Cases.{readingOf};
+ghost use Rattle.cases.specs.Cases.{refusalOf};
 ghost use Rattle.answer.specs.Answer.{caseOf};
 ghost use Rattle.sheet.specs.Sheet.{sheetOf};
 ghost use Rattle.report.specs.Report.{textOf};
@@ -19,13 +19,12 @@ pub struct DeskSheet {
     pub refused: u64,
 }
 
-// Reads a case: its number, 0 if it is accepted.
+// Tests a case: its number, 0 if it is accepted.
 #[no_mangle]
 pub extern "C" fn desk_check_case(case: &[u8]) -> u32
-    ensures { λ r. ⌜ r ≡ readingOf (now (case .entry)) .refusal ⌝ }
+    ensures { λ r. ⌜ r ≡ refusalOf (now (case .entry)) ⌝ }
 {
-    let reading = cases::read_case(case);
-    reading.refusal as u32
+    cases::check_case(case) as u32
 }
 
 // Rules a case into the first 96 bytes of a buffer: its number, 0 if it is ruled.

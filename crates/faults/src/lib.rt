@@ -1,8 +1,7 @@
 // The tests on facts behind document 01's "Numbers given back instead of a ruling", 4 to 9 in the table's order. Their
 // definitions stand in `refusals`, beside those of 1 to 3. The first that fails is told.
 ghost use mathlib.Core.Path.{_≡_};
-ghost use Rattle.wire.specs.Tests.{firstFailed};
-ghost use Rattle.refusals.specs.Tests.{codeByteOk, codeOk, codesOk, millsOk, priceOk, quotesPriced, pricesOk, quoteOk, countsOk, momentOk, filedOk, timesOk, limitsOk, agreementOk, laterTests, faultOf};
+ghost use Rattle.refusals.specs.Tests.{codeByteOk, codeOk, codesOk, millsOk, priceOk, quotesPriced, pricesOk, quoteOk, countsOk, momentOk, filedOk, timesOk, limitsOk, agreementOk, faultOf};
 use facts::Agreement;
 use facts::Day;
 use facts::Facts;
@@ -174,23 +173,24 @@ fn agreement_ok(s: Settlement) -> bool
 
 // ---- the first that fails
 
-fn later_fault(f: Facts) -> u8
-    ensures { λ r. ⌜ r ≡ firstFailed (laterTests f) ⌝ }
-{
-    let nine = refusals::unless(agreement_ok(f.settlement), 0, 9);
-    let eight = refusals::unless(limits_ok(f.trade, f.buyer, f.seller), nine, 8);
-    let seven = refusals::unless(times_ok(f.trade, f.request, f.settlement), eight, 7);
-    let six = refusals::unless(counts_ok(f.trade, f.market), seven, 6);
-    refusals::unless(prices_ok(f), six, 5)
-}
-
-// The number of the first of the tests 4 to 9 that these facts fail, or 0. The codes are tested byte by byte, and apart: where one
-// fails, no other test is run.
+// The number of the first of the tests 4 to 9 that these facts fail, or 0. No test is run after one that fails.
 pub fn fault(f: Facts) -> u8
     ensures { λ r. ⌜ r ≡ faultOf f ⌝ }
 {
-    if codes_ok(f.buyer, f.seller) {
-        return later_fault(f);
+    if !codes_ok(f.buyer, f.seller) {
+        return 4;
     }
-    4
+    if !prices_ok(f) {
+        return 5;
+    }
+    if !counts_ok(f.trade, f.market) {
+        return 6;
+    }
+    if !times_ok(f.trade, f.request, f.settlement) {
+        return 7;
+    }
+    if !limits_ok(f.trade, f.buyer, f.seller) {
+        return 8;
+    }
+    refusals::unless(agreement_ok(f.settlement), 0, 9)
 }

@@ -5,8 +5,8 @@ use native.Mathlib.Omega.{arith}
 use lib.ListN.{length, length-append}
 use lib.Dec.{eqb}
 use Rattle.facts.specs.Codes.{priceOf}
-use Rattle.text.specs.Text.{decimalOf}
-use Rattle.text.proofs.Decimal.{either, decimal-length, price-length}
+use Rattle.wire.proofs.Tests.{either}
+use Rattle.text.proofs.Decimal.{decimal-length, price-length}
 use Rattle.lines.specs.Words.{Figures}
 use Rattle.lines.specs.Lines.{header, outcomeWord, ruledLine, refusedLine, endLine, sheetLine}
 

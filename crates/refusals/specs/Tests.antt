@@ -113,17 +113,15 @@ byteTests s = (2, headOk s) ∷ (3, zerosOk s && listsOk s) ∷ []
 abbrev pub formTests : List ℕ → List (ℕ × Bool)
 formTests s = (1, lengthOk s) ∷ byteTests s
 
-abbrev pub laterTests : Facts → List (ℕ × Bool)
-laterTests f =
-    (5, pricesOk f)
+abbrev pub factTests : Facts → List (ℕ × Bool)
+factTests f =
+    (4, codesOk (f .buyer) (f .seller))
+    ∷ (5, pricesOk f)
     ∷ (6, countsOk (f .trade) (f .market))
     ∷ (7, timesOk (f .trade) (f .request) (f .settlement))
     ∷ (8, limitsOk (f .trade) (f .buyer) (f .seller))
     ∷ (9, agreementOk (f .settlement .agreement) (f .settlement .agreed) (f .settlement .made))
     ∷ []
-
-abbrev pub factTests : Facts → List (ℕ × Bool)
-factTests f = (4, codesOk (f .buyer) (f .seller)) ∷ laterTests f
 
 -- the number of the first test that the bytes fail, or 0
 unfoldable pub formFaultOf : List ℕ → ℕ

@@ -1,7 +1,7 @@
 -- A case's line by the number that reading it gave, the sheet's text by the test that leads there, and the room that they take.
 use Prim.Native.Nat.{ℕ, _+_, _-_, _*_, _≤_}
-use mathlib.Core.Path.{_≡_, refl, sym, ap}
-use mathlib.Core.Bool.{Bool, true, false}
+use mathlib.Core.Path.{_≡_, sym, ap, _∙_}
+use mathlib.Core.Bool.{true, false}
 use mathlib.Core.List.{List, _++_}
 use native.Mathlib.Omega.{arith}
 use lib.ListN.{length, take, length-append}
@@ -11,15 +11,17 @@ use borrow.Author.Tests.{eq-eqb, ne-eqb}
 use borrow.Rule.Slice.PartMut.{midOf, putMid}
 use Rattle.wire.specs.Laid.{laid, row}
 use Rattle.wire.proofs.Laid.{laid-part}
+use Rattle.wire.proofs.Tests.{either}
 use Rattle.wire.proofs.Rows.{Ran}
-use Rattle.text.proofs.Decimal.{either}
-use Rattle.cases.specs.Cases.{readingOf}
+use Rattle.record.specs.Record.{factsOf}
+use Rattle.cases.specs.Cases.{refusalOf, readingOf}
 use Rattle.ruling.specs.Ruling.{rulingOf}
 use Rattle.figures.specs.Figures.{figuresOf}
-use Rattle.sheet.specs.Sheet.{caseAt, casesIn, ruledIn, wholeCases}
+use Rattle.sheet.specs.Sheet.{casesIn, ruledOne, ruledIn, wholeCases}
+use Rattle.sheet.proofs.Entries.{told-ruled, told-refused, told-number, told-facts, entered, one-ruled, one-refused}
 use Rattle.lines.specs.Lines.{header, ruledLine, refusedLine, endLine, sheetLine}
 use Rattle.lines.proofs.Lengths.{ruled-most, refused-most, end-most}
-use Rattle.report.specs.Words.{Reading}
+use Rattle.report.specs.Words.{Facts, Reading, Ruling, Figures}
 use Rattle.report.specs.Report.{caseLine, lineOf, ruledText, textOf}
 
 module _ (k : ℕ) (r : Reading) where
@@ -37,6 +39,24 @@ module _ (k : ℕ) (r : Reading) where
       either (λ (w : List ℕ). length w ≤ 85) (eqb (r .refusal) 0) (ruledLine (figuresOf (rulingOf (r .facts)))) (refusedLine k (r .refusal))
       (λ _. ruled-most (figuresOf (rulingOf (r .facts))))
       (λ _. refused-most k (r .refusal))
+
+-- what a case adds, from its parts: the number of its first failed test, and the line that was written for it
+module _ (k : ℕ) (s l m : List ℕ) (n : ℕ) (e : n ≡ refusalOf s) where
+  abbrev Entered : ℕ → ℕ → Type 0
+  Entered bytes ruled = (bytes ≡ length (caseLine k (readingOf s))) × (ruled ≡ ruledOne (readingOf s)) × (m ≡ laid (caseLine k (readingOf s)) l)
+
+  pub put-ruled-line : n ≡ 0 → (f : Facts) (r : Ruling) (g : Figures) → f ≡ factsOf s → r ≡ rulingOf f → g ≡ figuresOf r
+      → (bytes : ℕ) → (bytes ≡ length (ruledLine g)) × (m ≡ laid (ruledLine g) l) → Entered bytes 1
+  put-ruled-line h f r g says rules spells bytes w =
+      let z = told-ruled s n e h in
+      let same : ruledLine (figuresOf (rulingOf (readingOf s .facts))) ≡ ruledLine g =
+          ap (λ (x : Facts). ruledLine (figuresOf (rulingOf x))) (told-facts s n e f h says) ∙ ap (λ (x : Ruling). ruledLine (figuresOf x)) (sym rules) ∙ ap ruledLine (sym spells) in
+      entered caseLine k (readingOf s) (ruledLine g) l m bytes 1 (line-ruled k (readingOf s) z ∙ same) (w .0) (one-ruled (readingOf s) z) (w .1)
+
+  pub put-refused-line : (n ≡ 0 → ⊥) → (bytes : ℕ) → (bytes ≡ length (refusedLine k n)) × (m ≡ laid (refusedLine k n) l) → Entered bytes 0
+  put-refused-line h bytes w =
+      let z = told-refused s n e h in
+      entered caseLine k (readingOf s) (refusedLine k n) l m bytes 0 (line-refused k (readingOf s) z ∙ ap (refusedLine k) (told-number s n e)) (w .0) (one-refused (readingOf s) z) (w .1)
 
 pub bytes-most : (b k : ℕ) (r : Reading) → b ≡ length (caseLine k r) → b ≤ 85
 bytes-most b k r e = omega (arith, line-most k r)

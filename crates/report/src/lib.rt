@@ -19,16 +19,16 @@ fn put_case(case: &[u8], index: u32, out: &mut [u8]) -> Printed
     requires { ⌜ 85 ≤ length (now out) ⌝ }
     ensures { λ r. ⌜ (r .bytes ≡ length (caseLine index (readingOf (now (case .entry))))) × (r .ruled ≡ ruledOne (readingOf (now (case .entry)))) × (now (out .exit) ≡ laid (caseLine index (readingOf (now (case .entry)))) (now (out .entry))) ⌝ }
 {
-    let reading = cases::read_case(case);
-    if reading.refusal == 0 {
-        let n = figures::figures_of(ruling::rule(reading.facts));
+    let number = cases::check_case(case);
+    if number == 0 {
+        let n = figures::figures_of(ruling::rule(record::facts_of(case)));
         return Printed {
             bytes: lines::put_ruled(out, n),
             ruled: 1,
         };
     }
     Printed {
-        bytes: lines::put_refused(out, index, reading.refusal),
+        bytes: lines::put_refused(out, index, number),
         ruled: 0,
     }
 }

@@ -9,9 +9,12 @@ use lib.Dec.{eqb}
 use mathlib.Core.Logic.{_⊎_, inl, inr, ⊎-elim}
 use Rattle.wire.specs.Laid.{laid}
 use borrow.Author.Tests.{eq-eqb, ne-eqb, eqb-true, eqb-false}
+use Rattle.record.specs.Record.{factsOf}
+use Rattle.cases.specs.Cases.{refusalOf, readingOf}
+use Rattle.cases.proofs.Laws.{read-number, accepted-at}
 use Rattle.answer.specs.Answer.{answerOf}
 use Rattle.answer.proofs.Cases.{answer-length}
-use Rattle.sheet.specs.Words.{Reading}
+use Rattle.sheet.specs.Words.{Facts, Reading}
 use Rattle.sheet.specs.Sheet.{refusalBytes, entryBytes, ruledOne}
 
 refusal-length : (k n : ℕ) → length (refusalBytes k n) ≡ 12
@@ -50,18 +53,35 @@ module _ (k : ℕ) (r : Reading) where
   pub one-most : ruledOne r ≤ 1
   one-most = ⊎-elim (λ e. omega arith) (λ e. omega arith) entry-length
 
--- ---- what a case adds, from its parts: r is what reading answered, s what it means
-pub entered : (f : ℕ → Reading → List ℕ) (k : ℕ) (r s : Reading) (w l m : List ℕ) (bytes one : ℕ) → r ≡ s
+-- ---- what a case adds, from its parts: the number of its first failed test, and what was written for it
+module _ (s : List ℕ) (n : ℕ) (e : n ≡ refusalOf s) where
+  pub told-ruled : n ≡ 0 → readingOf s .refusal ≡ 0
+  told-ruled h = read-number s ∙ sym e ∙ h
+
+  pub told-refused : (n ≡ 0 → ⊥) → readingOf s .refusal ≡ 0 → ⊥
+  told-refused h z = h (e ∙ sym (read-number s) ∙ z)
+
+  pub told-number : readingOf s .refusal ≡ n
+  told-number = read-number s ∙ sym e
+
+  pub told-facts : (f : Facts) → n ≡ 0 → f ≡ factsOf s → readingOf s .facts ≡ f
+  told-facts f h says = ap (λ (r : Reading). r .facts) (accepted-at s (sym e ∙ h)) ∙ sym says
+
+pub entered : (f : ℕ → Reading → List ℕ) (k : ℕ) (r : Reading) (w l m : List ℕ) (bytes one : ℕ)
     → f k r ≡ w → bytes ≡ length w → ruledOne r ≡ one → m ≡ laid w l
-    → (bytes ≡ length (f k s)) × (one ≡ ruledOne s) × (m ≡ laid (f k s) l)
-entered f k r s w l m bytes one e is long counts wrote = rw (← e, is) (long, sym counts, wrote)
+    → (bytes ≡ length (f k r)) × (one ≡ ruledOne r) × (m ≡ laid (f k r) l)
+entered f k r w l m bytes one is long counts wrote = rw is (long, sym counts, wrote)
 
-module _ (k : ℕ) (r s : Reading) (e : r ≡ s) (l m : List ℕ) where
+module _ (k : ℕ) (s l m : List ℕ) (n : ℕ) (e : n ≡ refusalOf s) where
   abbrev Entered : ℕ → ℕ → Type 0
-  Entered bytes ruled = (bytes ≡ length (entryBytes k s)) × (ruled ≡ ruledOne s) × (m ≡ laid (entryBytes k s) l)
+  Entered bytes ruled = (bytes ≡ length (entryBytes k (readingOf s))) × (ruled ≡ ruledOne (readingOf s)) × (m ≡ laid (entryBytes k (readingOf s)) l)
 
-  pub enter-ruled : r .refusal ≡ 0 → m ≡ laid (answerOf (r .facts)) l → Entered 96 1
-  enter-ruled h w = entered entryBytes k r s _ l m 96 1 e (entry-ruled k r h) (sym (answer-length (r .facts))) (one-ruled r h) w
+  pub enter-ruled : n ≡ 0 → (f : Facts) → f ≡ factsOf s → m ≡ laid (answerOf f) l → Entered 96 1
+  enter-ruled h f says w =
+      let z = told-ruled s n e h in
+      entered entryBytes k (readingOf s) (answerOf f) l m 96 1 (entry-ruled k (readingOf s) z ∙ ap answerOf (told-facts s n e f h says)) (sym (answer-length f)) (one-ruled (readingOf s) z) w
 
-  pub enter-refused : (r .refusal ≡ 0 → ⊥) → m ≡ laid (refusalBytes k (r .refusal)) l → Entered 12 0
-  enter-refused h w = entered entryBytes k r s _ l m 12 0 e (entry-refused k r h) (sym (refusal-length k (r .refusal))) (one-refused r h) w
+  pub enter-refused : (n ≡ 0 → ⊥) → m ≡ laid (refusalBytes k n) l → Entered 12 0
+  enter-refused h w =
+      let z = told-refused s n e h in
+      entered entryBytes k (readingOf s) (refusalBytes k n) l m 12 0 (entry-refused k (readingOf s) z ∙ ap (refusalBytes k) (told-number s n e)) (sym (refusal-length k n)) (one-refused (readingOf s) z) w

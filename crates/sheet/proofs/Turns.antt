@@ -1,7 +1,7 @@
 -- What `sheetOf` is, by the tests that lead there, and what a turn of the loop adds.
 use Prim.Native.Nat.{ℕ, _+_, _-_, _*_, _%_, _≤_, _<_, zero-le}
 use mathlib.Core.Path.{_≡_, refl, _∙_}
-use mathlib.Core.Bool.{Bool, true, false, not, true≢false, false≢true}
+use mathlib.Core.Bool.{Bool, true, false}
 use mathlib.Core.List.{List}
 use native.Mathlib.Numerals.{add-one}
 use native.Mathlib.Nat.{add-sub-cancel-left, suc-mul}
@@ -42,15 +42,6 @@ module _ (s : List ℕ) (room : ℕ) where
 pub whole-length : (s : List ℕ) → wholeCases s ≡ true → length s ≤ 52800
 unfolding wholeCases
 whole-length s h = leb-true (length s) 52800 (both-true (eqb (length s % 88) 0) (leb (length s) 52800) h .1)
-
--- a test in the code asks whether it is not so
-pub not-whole : (b : Bool) → not b ≡ true → b ≡ false
-not-whole true e = absurd (false≢true e)
-not-whole false e = refl
-
-pub not-ragged : (b : Bool) → not b ≡ false → b ≡ true
-not-ragged true e = refl
-not-ragged false e = absurd (true≢false e)
 
 -- ---- the loop over the cases: what holds at its head, with i cases done, where a case adds f k of its reading, of m bytes at most
 module _ (f : ℕ → Reading → List ℕ) (m : ℕ) where

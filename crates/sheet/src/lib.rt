@@ -39,15 +39,15 @@ fn rule_entry(case: &[u8], index: u32, out: &mut [u8]) -> Entry
     requires { ⌜ 96 ≤ length (now out) ⌝ }
     ensures { λ r. ⌜ (r .bytes ≡ length (entryBytes index (readingOf (now (case .entry))))) × (r .ruled ≡ ruledOne (readingOf (now (case .entry)))) × (now (out .exit) ≡ laid (entryBytes index (readingOf (now (case .entry)))) (now (out .entry))) ⌝ }
 {
-    let reading = cases::read_case(case);
-    if reading.refusal == 0 {
-        answer::answer_facts(out, reading.facts);
+    let n = cases::check_case(case);
+    if n == 0 {
+        answer::answer_facts(out, record::facts_of(case));
         return Entry {
             bytes: 96,
             ruled: 1,
         };
     }
-    put_refusal(out, index, reading.refusal as u16);
+    put_refusal(out, index, n as u16);
     Entry {
         bytes: 12,
         ruled: 0,

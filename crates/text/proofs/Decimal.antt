@@ -9,7 +9,7 @@ use lib.ListN.{length, getD, length-append, List·getD-append}
 use lib.Dec.{ltb}
 use borrow.Author.Tests.{lt-ltb, le-ltb, ltb-true, ltb-false}
 use Rattle.wire.specs.Tests.{pick, inRange}
-use Rattle.wire.proofs.Tests.{range-in, both-true}
+use Rattle.wire.proofs.Tests.{range-in, both-true, either}
 use Rattle.text.specs.Words.{Price, At, None}
 use Rattle.text.specs.Text.{digit, spelt, decimalOf, priceText, allDigits, valueFrom, valueOf}
 
@@ -36,11 +36,6 @@ one-long n h = ap length (decimal-one n h)
 
 pub more-long : (n : ℕ) → 10 ≤ n → n < 4294967296 → length (decimalOf n) ≡ length (decimalOf (n / 10)) + 1
 more-long n h l = ap length (decimal-more n h l) ∙ length-append (decimalOf (n / 10)) (digit (n % 10) ∷ [])
-
--- what holds of the first where it is picked, and of the second where it is, holds of the one picked
-pub either : {A : Type 0} (P : A → Type 0) (b : Bool) (x y : A) → (b ≡ true → P x) → (b ≡ false → P y) → P (pick b x y)
-either P true x y p q = p refl
-either P false x y p q = q refl
 
 -- ---- 1 to 10 bytes
 abbrev Long : ℕ → List ℕ → Type 0

@@ -2,7 +2,7 @@
 use Prim.Native.Nat.{ℕ, zero, suc, _+_, _≤_, _<_}
 use native.Mathlib.Nat.{le-of-suc-le-suc, lt-of-lt-of-le, le-trans}
 use mathlib.Core.Path.{_≡_, refl, sym, subst}
-use mathlib.Core.Bool.{Bool, true, false, not, _&&_}
+use mathlib.Core.Bool.{Bool, true, false, not, _&&_, true≢false, false≢true}
 use mathlib.Core.List.{List, [], _∷_, _++_}
 use lib.Dec.{T, leb, eqb, leb→le, T-not}
 use native.Mathlib.Omega.{arith}
@@ -38,6 +38,21 @@ le-lit n a b h t = le-trans (leb→le b a t) h
 pub ruleset ranges = (tt, zero≤, range-in, range-low, range-high, lt-lit, le-lit)
 
 -- ---- tests taken apart
+
+-- where the code asks whether a test does not hold
+pub fails : (b : Bool) → not b ≡ true → b ≡ false
+fails true e = absurd (false≢true e)
+fails false e = refl
+
+pub holds : (b : Bool) → not b ≡ false → b ≡ true
+holds true e = refl
+holds false e = absurd (true≢false e)
+
+-- what holds of the first where it is picked, and of the second where it is, holds of the one picked
+pub either : {A : Type 0} (P : A → Type 0) (b : Bool) (x y : A) → (b ≡ true → P x) → (b ≡ false → P y) → P (pick b x y)
+either P true x y p q = p refl
+either P false x y p q = q refl
+
 pub both-true : (a b : Bool) → (a && b) ≡ true → (a ≡ true) × (b ≡ true)
 both-true true b h = (refl, h)
 both-true false b h = absurd (eqb-false 0 0 (sym h) refl)

@@ -10,13 +10,17 @@ returns c = ends _ _ _ (case-length _ _ (c .if1 .taken)) (laid-none _)
 returns-2 : tie.Need-returns-2
 returns-2 c = ends _ _ _ (case-room _ _ (c .before .if1 .left) (c .if2 .taken)) (laid-none _)
 
-read-case-requires : tie.Need-read-case-requires
-read-case-requires c κs = search needs
+check-case-requires : tie.Need-check-case-requires
+check-case-requires c κs = search needs
 
 returns-3 : tie.Need-returns-3
-returns-3 c = let r = c .before .before in
-    let room = r .before in
-    ends _ _ _ (case-refused _ _ (room .before .if1 .left) (room .if2 .left) _ (r .read-case .ensures) (c .if3 .taken)) (laid-none _)
+returns-3 c =
+    let n = c .before in
+    let room = n .before in
+    ends _ _ _ (case-refused _ _ (room .before .if1 .left) (room .if2 .left) _ (n .check-case .ensures) (c .if3 .taken)) (laid-none _)
+
+facts-of-requires : tie.Need-facts-of-requires
+facts-of-requires c κs = c .before .before .before .before .if1 .left
 
 answer-facts-requires : tie.Need-answer-facts-requires
 answer-facts-requires c κs = search needs
@@ -25,10 +29,13 @@ same-length : tie.Need-same-length
 same-length c = search needs
 
 returns-4 : tie.Need-returns-4
-returns-4 c = let put = c .before .before in
-    let r = put .before .before .before .before in
-    let room = r .before in
-    ends _ _ _ (case-ruled _ _ (room .before .if1 .left) (room .if2 .left) _ (r .read-case .ensures) (put .before .before .if3 .left)) (put .answer-facts .ensures)
+returns-4 c =
+    let put = c .before .before in
+    let f = put .before in
+    let t = f .before .before in
+    let n = t .before in
+    let room = n .before in
+    ends _ _ _ (case-ruled _ _ (room .before .if1 .left) (room .if2 .left) _ (n .check-case .ensures) (t .if3 .left) _ (f .facts-of .ensures)) (put .answer-facts .ensures)
 
 pub rule-case-spec : {M : Type 1} → statement M
 rule-case-spec =
@@ -36,8 +43,9 @@ rule-case-spec =
     (tie.spec
     returns
     returns-2
-    read-case-requires
+    check-case-requires
     returns-3
+    facts-of-requires
     answer-facts-requires
     same-length
     returns-4)

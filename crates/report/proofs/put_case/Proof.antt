@@ -1,15 +1,15 @@
-use Rattle.report.specs.Report.{caseLine}
-use Rattle.report.proofs.Lines.{line-ruled, line-refused}
-use Rattle.sheet.proofs.Entries.{entered, one-ruled, one-refused}
-use mathlib.Core.Path.{sym, ap, _∙_}
-use Rattle.lines.specs.Lines.{ruledLine}
-use Rattle.figures.specs.Figures.{figuresOf}
+use mathlib.Core.Path.{sym, _∙_}
+use Rattle.cases.proofs.Laws.{passed-whole}
+use Rattle.report.proofs.Lines.{put-ruled-line, put-refused-line}
 use borrow.Author.Needs.{needs}
 use Rattle.report.proofs.put_case.Statement.{statement}
 use Rattle.report.proofs.put_case.Tie as tie
 
-read-case-requires : tie.Need-read-case-requires
-read-case-requires c κs = search needs
+check-case-requires : tie.Need-check-case-requires
+check-case-requires c κs = search needs
+
+facts-of-requires : tie.Need-facts-of-requires
+facts-of-requires c κs = passed-whole _ (sym (c .before .check-case .ensures) ∙ c .if1 .taken)
 
 rule-requires : tie.Need-rule-requires
 rule-requires c κs = search needs
@@ -26,8 +26,10 @@ same-length c = search needs
 returns : tie.Need-returns
 returns c =
     let p = c .before .before in
-    let z = p .before .before .before .before in
-    entered caseLine _ _ _ _ _ _ _ _ (z .before .before .read-case .ensures) (line-ruled _ _ (z .if1 .taken) ∙ sym (ap ruledLine (p .before .before .figures-of .ensures ∙ ap figuresOf (p .before .before .before .rule .ensures .0)))) (p .put-ruled .ensures .0) (one-ruled _ (z .if1 .taken)) (p .put-ruled .ensures .1)
+    let r = p .before .before .before in
+    let f = r .before in
+    let t = f .before in
+    put-ruled-line _ _ _ _ _ (t .before .check-case .ensures) (t .if1 .taken) _ _ _ (f .facts-of .ensures) (r .rule .ensures .0) (p .before .before .figures-of .ensures) _ (p .put-ruled .ensures)
 
 put-refused-requires : tie.Need-put-refused-requires
 put-refused-requires c κs = search needs
@@ -38,14 +40,15 @@ same-length-2 c = search needs
 returns-2 : tie.Need-returns-2
 returns-2 c =
     let p = c .before .before in
-    let z = p .before .before in
-    entered caseLine _ _ _ _ _ _ _ _ (z .before .before .read-case .ensures) (line-refused _ _ (z .if1 .left)) (p .put-refused .ensures .0) (one-refused _ (z .if1 .left)) (p .put-refused .ensures .1)
+    let t = p .before .before in
+    put-refused-line _ _ _ _ _ (t .before .check-case .ensures) (t .if1 .left) _ (p .put-refused .ensures)
 
 pub put-case-spec : {M : Type 1} → statement M
 put-case-spec =
     tie.close
     (tie.spec
-    read-case-requires
+    check-case-requires
+    facts-of-requires
     rule-requires
     figures-of-requires
     put-ruled-requires

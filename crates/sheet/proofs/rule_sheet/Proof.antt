@@ -5,11 +5,12 @@ use native.Mathlib.Omega.{arith}
 use lib.ListN.{length, length-take, length-drop}
 use denote.Ref.{now}
 use borrow.Author.Needs.{needs}
+use Rattle.wire.proofs.Tests.{fails, holds}
 use Rattle.wire.proofs.Laid.{laid-none, ends}
 use Rattle.sheet.specs.Words.{SheetAnswer}
 use Rattle.sheet.specs.Sheet.{entryBytes}
 use Rattle.sheet.proofs.Entries.{entry-most}
-use Rattle.sheet.proofs.Turns.{Turn, first, next, sheet-refused, not-whole, not-ragged, sheet-room, whole-length, sheet-ruled, bytes-most, few-more}
+use Rattle.sheet.proofs.Turns.{Turn, first, next, sheet-refused, sheet-room, whole-length, sheet-ruled, bytes-most, few-more}
 use Rattle.sheet.proofs.rule_sheet.Statement.{statement}
 use Rattle.sheet.proofs.rule_sheet.Tie as tie
 
@@ -28,7 +29,7 @@ refuse-requires c κs = search needs
 returns : tie.Need-returns Inv-loop μ-loop
 returns c =
     let t = c .before in
-    ends _ _ _ (sheet-refused _ _ (sym (t .before .whole-cases .ensures) ∙ not-whole _ (t .if1 .taken)) ∙ ap (λ (a : SheetAnswer). (a, [])) (sym (c .refuse .ensures))) (laid-none _)
+    ends _ _ _ (sheet-refused _ _ (sym (t .before .whole-cases .ensures) ∙ fails _ (t .if1 .taken)) ∙ ap (λ (a : SheetAnswer). (a, [])) (sym (c .refuse .ensures))) (laid-none _)
 
 mul-if2 : tie.Need-mul-if2 Inv-loop μ-loop
 mul-if2 c = omega arith
@@ -40,7 +41,7 @@ returns-2 : tie.Need-returns-2 Inv-loop μ-loop
 returns-2 c =
     let t = c .before in
     let w = t .before in
-    ends _ _ _ (sheet-room _ _ (sym (w .before .whole-cases .ensures) ∙ not-ragged _ (w .if1 .left)) (t .if2 .taken) ∙ ap (λ (a : SheetAnswer). (a, [])) (sym (c .refuse2 .ensures))) (laid-none _)
+    ends _ _ _ (sheet-room _ _ (sym (w .before .whole-cases .ensures) ∙ holds _ (w .if1 .left)) (t .if2 .taken) ∙ ap (λ (a : SheetAnswer). (a, [])) (sym (c .refuse2 .ensures))) (laid-none _)
 
 loop-holds : tie.Need-loop-holds Inv-loop μ-loop
 loop-holds c = first entryBytes 96 _ _
@@ -63,7 +64,7 @@ part-rule-entry-end c = omega arith
 cast-rule-entry : tie.Need-cast-rule-entry Inv-loop μ-loop
 cast-rule-entry c =
     let w = c .before .before .before .before in
-    omega (arith, whole-length _ (sym (w .before .whole-cases .ensures) ∙ not-ragged _ (w .if1 .left)))
+    omega (arith, whole-length _ (sym (w .before .whole-cases .ensures) ∙ holds _ (w .if1 .left)))
 
 sub-rule-entry-2 : tie.Need-sub-rule-entry-2 Inv-loop μ-loop
 sub-rule-entry-2 c = omega arith
@@ -105,7 +106,7 @@ returns-3 c = let l = c .before in
     let t = l .before in
     let w = t .before in
     let done : l .loop .i ≡ length (now (w .before .before .before .before .args .sheet)) / 88 = omega arith in
-    let e = sheet-ruled _ _ (sym (w .before .whole-cases .ensures) ∙ not-ragged _ (w .if1 .left)) (t .if2 .left) in
+    let e = sheet-ruled _ _ (sym (w .before .whole-cases .ensures) ∙ holds _ (w .if1 .left)) (t .if2 .left) in
     let v = l .loop .inv in
     ends _ _ _ (e ∙ rw (← done) (cc)) (v .ran .1)
 

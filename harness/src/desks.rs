@@ -1,0 +1,87 @@
+//! What the proved and the plain desk have in common, so that they can be compared call by call.
+
+use crate::desk::{self, DeskSheet, TEXT_BYTES};
+use crate::page;
+
+/// A desk: numbers are those of the page, 0 where nothing is refused.
+pub trait Desk {
+    fn name(&self) -> &str;
+    fn check_case(&self, case: &[u8]) -> u32;
+    fn rule_case(&self, case: &[u8], out: &mut [u8]) -> u32;
+    fn rule_sheet(&self, sheet: &[u8], out: &mut [u8]) -> DeskSheet;
+    fn print_sheet(&self, sheet: &[u8], out: &mut [u8; TEXT_BYTES]) -> u64;
+}
+
+/// The static library.
+pub struct Proved;
+
+impl Desk for Proved {
+    fn name(&self) -> &str {
+        "proved"
+    }
+
+    fn check_case(&self, case: &[u8]) -> u32 {
+        desk::check_case(case)
+    }
+
+    fn rule_case(&self, case: &[u8], out: &mut [u8]) -> u32 {
+        desk::rule_case(case, out)
+    }
+
+    fn rule_sheet(&self, sheet: &[u8], out: &mut [u8]) -> DeskSheet {
+        desk::rule_sheet(sheet, out)
+    }
+
+    fn print_sheet(&self, sheet: &[u8], out: &mut [u8; TEXT_BYTES]) -> u64 {
+        desk::print_sheet(sheet, out)
+    }
+}
+
+/// Makes `$desk` the desk of the module `$page`: the independent one here, a broken copy of it in
+/// the test of mutants.
+#[macro_export]
+macro_rules! desk_of_page {
+    ($desk:ident, $page:ident, $name:expr) => {
+        pub struct $desk;
+
+        impl $crate::desks::Desk for $desk {
+            fn name(&self) -> &str {
+                $name
+            }
+
+            fn check_case(&self, case: &[u8]) -> u32 {
+                $page::read_case(case).map_or_else(|refusal| u32::from(refusal.number()), |_| 0)
+            }
+
+            fn rule_case(&self, case: &[u8], out: &mut [u8]) -> u32 {
+                $page::rule_case(case, out)
+                    .map_or_else(|refusal| u32::from(refusal.number()), |()| 0)
+            }
+
+            fn rule_sheet(&self, sheet: &[u8], out: &mut [u8]) -> $crate::desk::DeskSheet {
+                match $page::rule_sheet(sheet, out) {
+                    Ok(counts) => $crate::desk::DeskSheet {
+                        refusal: 0,
+                        written: counts.written as u64,
+                        ruled: counts.ruled as u64,
+                        refused: counts.refused as u64,
+                    },
+                    Err(refusal) => $crate::desk::DeskSheet {
+                        refusal: u64::from(refusal.number()),
+                        written: 0,
+                        ruled: 0,
+                        refused: 0,
+                    },
+                }
+            }
+
+            fn print_sheet(&self, sheet: &[u8], out: &mut [u8; $crate::desk::TEXT_BYTES]) -> u64 {
+                let text = $page::print_sheet(sheet);
+                out[..text.len()].copy_from_slice(text.as_bytes());
+                text.len() as u64
+            }
+        }
+    };
+}
+
+desk_of_page!(Plain, page, "plain");

@@ -1,0 +1,224 @@
+//! The 88 bytes of a case record, field by field and unjudged: what the generators set and what a
+//! difference prints.
+
+use std::fmt;
+
+pub const NONE: u32 = u32::MAX;
+
+/// A field of the record as it stands in the bytes.
+trait Field {
+    fn put(&self, bytes: &mut [u8]);
+    fn of_bytes(bytes: &[u8]) -> Self;
+    /// The same number with its bytes in the other order.
+    fn turned(&self) -> Self;
+    fn shown(&self) -> String;
+}
+
+macro_rules! number_field {
+    ($number:ty) => {
+        impl Field for $number {
+            fn put(&self, bytes: &mut [u8]) {
+                bytes.copy_from_slice(&self.to_le_bytes());
+            }
+
+            fn of_bytes(bytes: &[u8]) -> Self {
+                <$number>::from_le_bytes(bytes.try_into().expect("the field's bytes"))
+            }
+
+            fn turned(&self) -> Self {
+                self.swap_bytes()
+            }
+
+            fn shown(&self) -> String {
+                if u64::from(*self) == u64::from(NONE) {
+                    String::from("none")
+                } else {
+                    self.to_string()
+                }
+            }
+        }
+    };
+}
+
+number_field!(u8);
+number_field!(u16);
+number_field!(u32);
+
+/// A member code is no number: it has no order to turn.
+impl Field for [u8; 4] {
+    fn put(&self, bytes: &mut [u8]) {
+        bytes.copy_from_slice(self);
+    }
+
+    fn of_bytes(bytes: &[u8]) -> Self {
+        bytes.try_into().expect("the field's bytes")
+    }
+
+    fn turned(&self) -> Self {
+        *self
+    }
+
+    fn shown(&self) -> String {
+        self.escape_ascii().to_string()
+    }
+}
+
+/// The record's fields, in their order and without a gap.
+macro_rules! fields {
+    ($($name:ident: $kind:ty,)*) => {
+        #[derive(Clone, Debug, PartialEq, Eq)]
+        pub struct Fields {
+            $(pub $name: $kind,)*
+        }
+
+        impl Fields {
+            pub fn encode(&self) -> [u8; 88] {
+                let mut record = [0; 88];
+                let mut rest = &mut record[..];
+                $(
+                    let (bytes, after) = rest.split_at_mut(size_of::<$kind>());
+                    self.$name.put(bytes);
+                    rest = after;
+                )*
+                assert!(rest.is_empty(), "the fields fill 88 bytes");
+                record
+            }
+
+            pub fn decode(record: &[u8; 88]) -> Fields {
+                let mut rest = &record[..];
+                let fields = Fields {
+                    $($name: {
+                        let (bytes, after) = rest.split_at(size_of::<$kind>());
+                        rest = after;
+                        Field::of_bytes(bytes)
+                    },)*
+                };
+                assert!(rest.is_empty(), "the fields fill 88 bytes");
+                fields
+            }
+
+            /// Every number with its bytes in the other order.
+            pub fn turned(&self) -> Fields {
+                Fields { $($name: self.$name.turned(),)* }
+            }
+        }
+
+        impl fmt::Display for Fields {
+            fn fmt(&self, out: &mut fmt::Formatter) -> fmt::Result {
+                let mut at = 0;
+                $(
+                    writeln!(out, "  {at:>2} {:<14} {}", stringify!($name), self.$name.shown())?;
+                    at += size_of::<$kind>();
+                )*
+                debug_assert_eq!(at, 88);
+                Ok(())
+            }
+        }
+    };
+}
+
+fields! {
+    length: u16,
+    kind: u16,
+    trade: u32,
+    execution: u32,
+    contracts: u32,
+    executed_at: u32,
+    bid: u32,
+    offer: u32,
+    bid_size: u32,
+    offer_size: u32,
+    zero_36: u32,
+    official: u32,
+    side: u8,
+    opening: u8,
+    expiry: u8,
+    panel: u8,
+    buyer_code: [u8; 4],
+    buyer_limit: u32,
+    seller_code: [u8; 4],
+    seller_limit: u32,
+    buyer_kind: u8,
+    seller_kind: u8,
+    day: u8,
+    agreement: u8,
+    agreed: u32,
+    filed_at: u32,
+    agreed_after: u32,
+    accepted_after: u32,
+    zero_84: u32,
+}
+
+impl Fields {
+    /// An accepted case that rules of the page can be tried on: two Market Makers, a buy of 10 at
+    /// 2.000 against an offer of 1.000, filed on the trade date 120 s after the execution at
+    /// 34,200. It is trade 1 of the page's own sheet.
+    pub fn example() -> Fields {
+        Fields {
+            length: 88,
+            kind: 1,
+            trade: 1,
+            execution: 2_000,
+            contracts: 10,
+            executed_at: 34_200,
+            bid: NONE,
+            offer: 1_000,
+            bid_size: 0,
+            offer_size: 10,
+            zero_36: 0,
+            official: NONE,
+            side: 1,
+            opening: 0,
+            expiry: 0,
+            panel: 0,
+            buyer_code: *b"MM01",
+            buyer_limit: NONE,
+            seller_code: *b"MM02",
+            seller_limit: NONE,
+            buyer_kind: 2,
+            seller_kind: 2,
+            day: 0,
+            agreement: 0,
+            agreed: NONE,
+            filed_at: 34_320,
+            agreed_after: 0,
+            accepted_after: NONE,
+            zero_84: 0,
+        }
+    }
+
+    /// The quotes alone with their bytes in the other order.
+    pub fn quotes_turned(&self) -> Fields {
+        Fields {
+            bid: self.bid.turned(),
+            offer: self.offer.turned(),
+            ..self.clone()
+        }
+    }
+}
+
+/// "The printer reads a sheet ...": the page's own three cases.
+pub fn page_sheet() -> Vec<u8> {
+    let first = Fields::example();
+    let second = Fields {
+        trade: 2,
+        execution: 1_000,
+        contracts: 30,
+        bid: 2_000,
+        bid_size: 20,
+        offer: NONE,
+        offer_size: 0,
+        side: 2,
+        opening: 1,
+        seller_code: *b"CUST",
+        seller_kind: 1,
+        filed_at: 34_200 + 1_800,
+        ..Fields::example()
+    };
+    let third = Fields {
+        trade: 3,
+        contracts: 0,
+        ..Fields::example()
+    };
+    [first.encode(), second.encode(), third.encode()].concat()
+}

@@ -1,0 +1,323 @@
+//! "The case record, 88 bytes", and the tests 1 to 9 in their order.
+
+use super::case::{violates, Agreement, Case, Day, Kind, Party, Quote, Side, Terms};
+use super::refusal::Refusal;
+use super::units::{Contracts, Mills, Seconds};
+
+pub const CASE_BYTES: usize = 88;
+
+/// A record that passed test 1.
+pub type Record = [u8; CASE_BYTES];
+
+const KIND: u16 = 1;
+const NONE: u32 = 4_294_967_295;
+const HIGHEST_PRICE: u32 = 9_999_999;
+const MOST_CONTRACTS: u32 = 1_000_000;
+const LAST_SECOND: u32 = 86_399;
+const LONGEST_WAIT: u32 = 86_400;
+
+/// "Reading a case tests 1, then 2 to 9."
+pub fn read_case(bytes: &[u8]) -> Result<Case, Refusal> {
+    read_record(as_record(bytes)?)
+}
+
+/// Test 1: "the case isn't 88 bytes long".
+pub fn as_record(bytes: &[u8]) -> Result<&Record, Refusal> {
+    bytes.try_into().map_err(|_| Refusal::CaseLength)
+}
+
+/// Tests 2 to 9.
+#[inline]
+pub fn read_record(record: &Record) -> Result<Case, Refusal> {
+    length_and_kind(record)?;
+    let coded = Coded::read(record).ok_or(Refusal::ZeroOrCodedByte)?;
+    let buyer_code = member_code(record, 48)?;
+    let seller_code = member_code(record, 56)?;
+    let prices = Prices::read(record).ok_or(Refusal::Price)?;
+    let sizes = Sizes::read(record, &prices).ok_or(Refusal::ContractsOrSize)?;
+    let times = Times::read(record, coded.filing_day).ok_or(Refusal::Time)?;
+    within_limits(&prices)?;
+    let agreement = agreement(coded.agreement, prices.agreed, times.agreed_after)?;
+    Ok(Case {
+        trade: u32_at(record, 4),
+        execution: prices.execution,
+        contracts: sizes.contracts,
+        executed_at: times.executed_at,
+        bid: sizes.bid,
+        offer: sizes.offer,
+        official: prices.official,
+        side_in_error: coded.side_in_error,
+        on_opening: coded.on_opening,
+        expiry_deadline: coded.expiry_deadline,
+        panel_decided: coded.panel_decided,
+        buyer: Party {
+            code: buyer_code,
+            limit: prices.buyer_limit,
+            kind: coded.buyer_kind,
+        },
+        seller: Party {
+            code: seller_code,
+            limit: prices.seller_limit,
+            kind: coded.seller_kind,
+        },
+        filing_day: coded.filing_day,
+        filed_at: times.filed_at,
+        agreement,
+        accepted_after: times.accepted_after,
+    })
+}
+
+/// Test 2: "length or kind is another".
+fn length_and_kind(record: &Record) -> Result<(), Refusal> {
+    if u16_at(record, 0) == CASE_BYTES as u16 && u16_at(record, 2) == KIND {
+        Ok(())
+    } else {
+        Err(Refusal::LengthOrKind)
+    }
+}
+
+/// Byte 67: "agreement: 0 none, 1 a price, 2 nullify".
+#[derive(Clone, Copy)]
+enum AgreementMark {
+    None,
+    Price,
+    Nullify,
+}
+
+/// The coded bytes.
+struct Coded {
+    side_in_error: Side,
+    on_opening: bool,
+    expiry_deadline: bool,
+    panel_decided: bool,
+    buyer_kind: Kind,
+    seller_kind: Kind,
+    filing_day: Day,
+    agreement: AgreementMark,
+}
+
+impl Coded {
+    /// Test 3: "a zero byte isn't zero, or a coded byte is not in its list".
+    fn read(record: &Record) -> Option<Coded> {
+        if u32_at(record, 36) != 0 || u32_at(record, 84) != 0 {
+            return None;
+        }
+        Some(Coded {
+            side_in_error: side(record[44])?,
+            on_opening: flag(record[45])?,
+            expiry_deadline: flag(record[46])?,
+            panel_decided: flag(record[47])?,
+            buyer_kind: party_kind(record[64])?,
+            seller_kind: party_kind(record[65])?,
+            filing_day: day(record[66])?,
+            agreement: agreement_mark(record[67])?,
+        })
+    }
+}
+
+fn side(byte: u8) -> Option<Side> {
+    match byte {
+        1 => Some(Side::Buy),
+        2 => Some(Side::Sell),
+        _ => None,
+    }
+}
+
+fn flag(byte: u8) -> Option<bool> {
+    match byte {
+        0 => Some(false),
+        1 => Some(true),
+        _ => None,
+    }
+}
+
+fn party_kind(byte: u8) -> Option<Kind> {
+    match byte {
+        1 => Some(Kind::Customer),
+        2 => Some(Kind::MarketMaker),
+        3 => Some(Kind::Other),
+        _ => None,
+    }
+}
+
+fn day(byte: u8) -> Option<Day> {
+    match byte {
+        0 => Some(Day::Trade),
+        1 => Some(Day::Next),
+        2 => Some(Day::Later),
+        _ => None,
+    }
+}
+
+fn agreement_mark(byte: u8) -> Option<AgreementMark> {
+    match byte {
+        0 => Some(AgreementMark::None),
+        1 => Some(AgreementMark::Price),
+        2 => Some(AgreementMark::Nullify),
+        _ => None,
+    }
+}
+
+/// Test 4: "Each byte of a member code is 'A' to 'Z' or '0' to '9'."
+fn member_code(record: &Record, at: usize) -> Result<[u8; 4], Refusal> {
+    let code = bytes_at(record, at);
+    if code
+        .iter()
+        .all(|byte| matches!(byte, b'A'..=b'Z' | b'0'..=b'9'))
+    {
+        Ok(code)
+    } else {
+        Err(Refusal::MemberCode)
+    }
+}
+
+struct Prices {
+    execution: Mills,
+    bid: Option<Mills>,
+    offer: Option<Mills>,
+    official: Option<Mills>,
+    buyer_limit: Option<Mills>,
+    seller_limit: Option<Mills>,
+    agreed: Option<Mills>,
+}
+
+impl Prices {
+    /// Test 5: "a price is above 9,999,999 and isn't a permitted none (at 68 none always passes)".
+    fn read(record: &Record) -> Option<Prices> {
+        Some(Prices {
+            execution: price(u32_at(record, 8))?,
+            bid: price_or_none(u32_at(record, 20))?,
+            offer: price_or_none(u32_at(record, 24))?,
+            official: price_or_none(u32_at(record, 40))?,
+            buyer_limit: price_or_none(u32_at(record, 52))?,
+            seller_limit: price_or_none(u32_at(record, 60))?,
+            agreed: price_or_none(u32_at(record, 68))?,
+        })
+    }
+}
+
+fn price(word: u32) -> Option<Mills> {
+    (word <= HIGHEST_PRICE).then_some(Mills(word))
+}
+
+/// The outer `Option` is the test, the inner one the price or none.
+fn price_or_none(word: u32) -> Option<Option<Mills>> {
+    match word {
+        NONE => Some(None),
+        _ => price(word).map(Some),
+    }
+}
+
+struct Sizes {
+    contracts: Contracts,
+    bid: Option<Quote>,
+    offer: Option<Quote>,
+}
+
+impl Sizes {
+    /// Test 6: "contracts or a size break their rule".
+    fn read(record: &Record, prices: &Prices) -> Option<Sizes> {
+        Some(Sizes {
+            contracts: contracts(u32_at(record, 12))?,
+            bid: quote(prices.bid, u32_at(record, 28))?,
+            offer: quote(prices.offer, u32_at(record, 32))?,
+        })
+    }
+}
+
+/// "Contracts, 1 to 1,000,000."
+fn contracts(word: u32) -> Option<Contracts> {
+    matches!(word, 1..=MOST_CONTRACTS).then_some(Contracts(word))
+}
+
+/// "A quote of none has size 0; a quote above zero has size at least 1; a quote of zero may have
+/// either."
+fn quote(price: Option<Mills>, size: u32) -> Option<Option<Quote>> {
+    let Some(price) = price else {
+        return (size == 0).then_some(None);
+    };
+    let least = if price > Mills(0) { 1 } else { 0 };
+    (least..=MOST_CONTRACTS)
+        .contains(&size)
+        .then_some(Some(Quote {
+            price,
+            size: Contracts(size),
+        }))
+}
+
+struct Times {
+    executed_at: Seconds,
+    filed_at: Seconds,
+    agreed_after: Seconds,
+    accepted_after: Option<Seconds>,
+}
+
+impl Times {
+    /// Test 7: "a time or a count of seconds is out of range, or on day 0 the filing precedes the
+    /// execution".
+    fn read(record: &Record, filing_day: Day) -> Option<Times> {
+        let times = Times {
+            executed_at: time_of_day(u32_at(record, 16))?,
+            filed_at: time_of_day(u32_at(record, 72))?,
+            agreed_after: wait(u32_at(record, 76))?,
+            accepted_after: wait_or_none(u32_at(record, 80))?,
+        };
+        let precedes = filing_day == Day::Trade && times.filed_at < times.executed_at;
+        (!precedes).then_some(times)
+    }
+}
+
+fn time_of_day(word: u32) -> Option<Seconds> {
+    (word <= LAST_SECOND).then_some(Seconds(word))
+}
+
+/// Seconds after notice.
+fn wait(word: u32) -> Option<Seconds> {
+    (word <= LONGEST_WAIT).then_some(Seconds(word))
+}
+
+fn wait_or_none(word: u32) -> Option<Option<Seconds>> {
+    match word {
+        NONE => Some(None),
+        _ => wait(word).map(Some),
+    }
+}
+
+/// Test 8: "the execution price is above the buyer's limit or below the seller's".
+fn within_limits(prices: &Prices) -> Result<(), Refusal> {
+    if violates(prices.execution, Side::Buy, prices.buyer_limit)
+        || violates(prices.execution, Side::Sell, prices.seller_limit)
+    {
+        Err(Refusal::Limit)
+    } else {
+        Ok(())
+    }
+}
+
+/// Test 9: "the agreement fields contradict byte 67". The agreed price is "present exactly when
+/// byte 67 is 1", the seconds are "0 if none was made".
+fn agreement(
+    mark: AgreementMark,
+    agreed: Option<Mills>,
+    after: Seconds,
+) -> Result<Option<Agreement>, Refusal> {
+    let terms = match (mark, agreed) {
+        (AgreementMark::None, None) if after == Seconds(0) => return Ok(None),
+        (AgreementMark::Price, Some(price)) => Terms::Price(price),
+        (AgreementMark::Nullify, None) => Terms::Nullify,
+        _ => return Err(Refusal::Agreement),
+    };
+    Ok(Some(Agreement { terms, after }))
+}
+
+fn bytes_at<const N: usize>(record: &Record, at: usize) -> [u8; N] {
+    *record[at..].first_chunk().expect("a field of the record")
+}
+
+fn u16_at(record: &Record, at: usize) -> u16 {
+    u16::from_le_bytes(bytes_at(record, at))
+}
+
+fn u32_at(record: &Record, at: usize) -> u32 {
+    u32::from_le_bytes(bytes_at(record, at))
+}
