@@ -31,7 +31,16 @@ fn code_byte_ok(b: u8) -> bool
 fn code_ok(c: [u8; 4]) -> bool
     ensures { λ r. ⌜ r ≡ codeOk c ⌝ }
 {
-    code_byte_ok(c[0]) & code_byte_ok(c[1]) & code_byte_ok(c[2]) & code_byte_ok(c[3])
+    if !code_byte_ok(c[0]) {
+        return false;
+    }
+    if !code_byte_ok(c[1]) {
+        return false;
+    }
+    if !code_byte_ok(c[2]) {
+        return false;
+    }
+    code_byte_ok(c[3])
 }
 
 fn codes_ok(buyer: Party, seller: Party) -> bool

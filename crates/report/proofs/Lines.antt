@@ -50,7 +50,7 @@ module _ (k : ℕ) (s l m : List ℕ) (n : ℕ) (e : n ≡ refusalOf s) where
   put-ruled-line h f r g says rules spells bytes w =
       let z = told-ruled s n e h in
       let same : ruledLine (figuresOf (rulingOf (readingOf s .facts))) ≡ ruledLine g =
-          ap (λ (x : Facts). ruledLine (figuresOf (rulingOf x))) (told-facts s n e f h says) ∙ ap (λ (x : Ruling). ruledLine (figuresOf x)) (sym rules) ∙ ap ruledLine (sym spells) in
+      ap (λ (x : Facts). ruledLine (figuresOf (rulingOf x))) (told-facts s n e f h says) ∙ ap (λ (x : Ruling). ruledLine (figuresOf x)) (sym rules) ∙ ap ruledLine (sym spells) in
       entered caseLine k (readingOf s) (ruledLine g) l m bytes 1 (line-ruled k (readingOf s) z ∙ same) (w .0) (one-ruled (readingOf s) z) (w .1)
 
   pub put-refused-line : (n ≡ 0 → ⊥) → (bytes : ℕ) → (bytes ≡ length (refusedLine k n)) × (m ≡ laid (refusedLine k n) l) → Entered bytes 0

@@ -4,7 +4,7 @@
 // Seconds are compared and summed here and nowhere above.
 ghost use mathlib.Core.Path.{_≡_};
 ghost use Rattle.way.specs.Times.{isTradeDate, isNextDay, noLater, within};
-ghost use Rattle.way.specs.Way.{obviousTime, obviousOpen, openingOpen, catastrophicOpen, firstOpen, wayOf};
+ghost use Rattle.way.specs.Way.{obviousTime, obviousOpen, openingOpen, catastrophicOpen, wayOf};
 use facts::Day;
 use facts::Kind;
 use facts::Request;
@@ -96,31 +96,20 @@ fn catastrophic_open(day: Day, expiry: bool, filed: Seconds) -> bool
     is_trade_date(day) | is_next_day(day) & no_later(filed, Seconds(30600))
 }
 
-// The first of the three that is open.
-fn first_open(obvious: bool, opening: bool, catastrophic: bool) -> Open
-    ensures { λ r. ⌜ r ≡ firstOpen obvious opening catastrophic ⌝ }
-{
-    if obvious {
-        return Open::By(Way::Obvious);
-    }
-    if opening {
-        return Open::By(Way::Opening);
-    }
-    if catastrophic {
-        return Open::By(Way::Catastrophic);
-    }
-    Open::Closed
-}
-
-// The way of a request, `kind` being that of the party in error.
+// The way of a request, `kind` being that of the party in error: the first that is open, and no other is tried.
 pub fn find_way(executed: Seconds, request: Request, kind: Kind) -> Open
     ensures { λ r. ⌜ r ≡ wayOf executed request kind ⌝ }
 {
     let day = request.day;
     let filed = request.filed;
-    first_open(
-        obvious_open(day, executed, filed, kind),
-        opening_open(day, request.opening, executed, filed, kind),
-        catastrophic_open(day, request.expiry, filed),
-    )
+    if obvious_open(day, executed, filed, kind) {
+        return Open::By(Way::Obvious);
+    }
+    if opening_open(day, request.opening, executed, filed, kind) {
+        return Open::By(Way::Opening);
+    }
+    if catastrophic_open(day, request.expiry, filed) {
+        return Open::By(Way::Catastrophic);
+    }
+    Open::Closed
 }
