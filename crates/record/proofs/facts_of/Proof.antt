@@ -1,4 +1,4 @@
-use Rattle.record.specs.Record.{factsOf}
+use Rattle.record.proofs.Read.{facts-read}
 use borrow.Author.Needs.{needs}
 use Rattle.record.proofs.facts_of.Statement.{statement}
 use Rattle.record.proofs.facts_of.Tie as tie
@@ -22,8 +22,14 @@ settlement-of-requires : tie.Need-settlement-of-requires
 settlement-of-requires c κs = search needs
 
 returns : tie.Need-returns
-unfolding factsOf
-returns c = cc
+returns c =
+    facts-read _
+    (c .before .before .before .before .before .trade-of .ensures)
+    (c .before .before .before .before .market-of .ensures)
+    (c .before .before .before .request-of .ensures)
+    (c .before .before .party-at .ensures)
+    (c .before .party-at2 .ensures)
+    (c .settlement-of .ensures)
 
 pub facts-of-spec : {M : Type 1} → statement M
 facts-of-spec =

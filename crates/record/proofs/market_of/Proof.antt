@@ -1,4 +1,4 @@
-use Rattle.record.specs.Record.{marketOf}
+use Rattle.record.proofs.Read.{market-read}
 use borrow.Author.Needs.{needs}
 use Rattle.record.proofs.market_of.Statement.{statement}
 use Rattle.record.proofs.market_of.Tie as tie
@@ -28,8 +28,16 @@ price-of-requires-3 : tie.Need-price-of-requires-3
 price-of-requires-3 c κs = search needs
 
 returns : tie.Need-returns
-unfolding marketOf
-returns c = cc
+returns c =
+    market-read _
+    (c .before .before .before .before .before .before .before .read-u32 .ensures)
+    (c .before .before .before .before .before .before .price-of .ensures .0)
+    (c .before .before .before .before .before .read-u322 .ensures)
+    (c .before .before .before .before .read-u323 .ensures)
+    (c .before .before .before .price-of2 .ensures .0)
+    (c .before .before .read-u324 .ensures)
+    (c .before .read-u325 .ensures)
+    (c .price-of3 .ensures .0)
 
 pub market-of-spec : {M : Type 1} → statement M
 market-of-spec =

@@ -1,4 +1,4 @@
-use Rattle.record.specs.Record.{partyAt}
+use Rattle.record.proofs.Read.{party-read}
 use borrow.Author.Needs.{needs}
 use Rattle.record.proofs.party_at.Statement.{statement}
 use Rattle.record.proofs.party_at.Tie as tie
@@ -22,8 +22,12 @@ kind-of-requires : tie.Need-kind-of-requires
 kind-of-requires c κs = search needs
 
 returns : tie.Need-returns
-unfolding partyAt
-returns c = cc
+returns c =
+    party-read _ _ _
+    (c .before .before .before .before .code-at .ensures)
+    (c .before .before .before .read-u32 .ensures)
+    (c .before .before .price-of .ensures .0)
+    (c .kind-of .ensures .0)
 
 pub party-at-spec : {M : Type 1} → statement M
 party-at-spec =

@@ -1,4 +1,4 @@
-use Rattle.record.specs.Record.{requestOf}
+use Rattle.record.proofs.Read.{request-read}
 use borrow.Author.Needs.{needs}
 use Rattle.record.proofs.request_of.Statement.{statement}
 use Rattle.record.proofs.request_of.Tie as tie
@@ -37,8 +37,14 @@ read-u32-requires : tie.Need-read-u32-requires
 read-u32-requires c κs = search needs
 
 returns : tie.Need-returns
-unfolding requestOf
-returns c = cc
+returns c =
+    request-read _
+    (c .before .before .before .before .before .before .before .before .before .side-of .ensures .0)
+    (c .before .before .before .before .before .before .before .flag-of .ensures)
+    (c .before .before .before .before .before .flag-of2 .ensures)
+    (c .before .before .before .flag-of3 .ensures)
+    (c .before .day-of .ensures .0)
+    (c .read-u32 .ensures)
 
 pub request-of-spec : {M : Type 1} → statement M
 request-of-spec =

@@ -1,4 +1,4 @@
-use Rattle.record.specs.Record.{settlementOf}
+use Rattle.record.proofs.Read.{settlement-read}
 use borrow.Author.Needs.{needs}
 use Rattle.record.proofs.settlement_of.Statement.{statement}
 use Rattle.record.proofs.settlement_of.Tie as tie
@@ -25,8 +25,14 @@ moment-of-requires : tie.Need-moment-of-requires
 moment-of-requires c κs = search needs
 
 returns : tie.Need-returns
-unfolding settlementOf
-returns c = cc
+returns c =
+    settlement-read _
+    (c .before .before .before .before .before .agreement-of .ensures .0)
+    (c .before .before .before .before .read-u32 .ensures)
+    (c .before .before .before .price-of .ensures .0)
+    (c .before .before .read-u322 .ensures)
+    (c .before .read-u323 .ensures)
+    (c .moment-of .ensures .0)
 
 pub settlement-of-spec : {M : Type 1} → statement M
 settlement-of-spec =

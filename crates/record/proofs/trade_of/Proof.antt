@@ -1,4 +1,4 @@
-use Rattle.record.specs.Record.{tradeOf}
+use Rattle.record.proofs.Read.{trade-read}
 use borrow.Author.Needs.{needs}
 use Rattle.record.proofs.trade_of.Statement.{statement}
 use Rattle.record.proofs.trade_of.Tie as tie
@@ -16,8 +16,12 @@ read-u32-requires-4 : tie.Need-read-u32-requires-4
 read-u32-requires-4 c κs = search needs
 
 returns : tie.Need-returns
-unfolding tradeOf
-returns c = cc
+returns c =
+    trade-read _
+    (c .before .before .before .read-u32 .ensures)
+    (c .before .before .read-u322 .ensures)
+    (c .before .read-u323 .ensures)
+    (c .read-u324 .ensures)
 
 pub trade-of-spec : {M : Type 1} → statement M
 trade-of-spec =
