@@ -1,4 +1,5 @@
 pub mod Numbers
+pub mod Stored
 pub mod Laid
 pub mod Rows
 pub mod Tests

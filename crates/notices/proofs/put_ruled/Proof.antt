@@ -1,3 +1,5 @@
+use Rattle.wire.specs.Numbers.{bytes}
+use Rattle.wire.proofs.Stored.{next}
 use borrow.Author.Needs.{needs}
 use Rattle.notices.proofs.put_ruled.Statement.{statement}
 use Rattle.notices.proofs.put_ruled.Tie as tie
@@ -21,7 +23,18 @@ same-length : tie.Need-same-length
 same-length c = search needs
 
 returns : tie.Need-returns
-returns c = cc
+returns c =
+    let at28 = c .before .before in
+    let at24 = at28 .before .before .before .before in
+    let at20 = at24 .before .before .before .before in
+    let at16 = at20 .before .before .before .before in
+    let at12 = at16 .before .before .before .before in
+    let n = at12 .before .before .before .args .n in
+    next 28 (bytes 4 (n .standing)) (at28 .put-u325 .ensures)
+    (next 24 (bytes 4 (n .nullified)) (at24 .put-u324 .ensures)
+    (next 20 (bytes 4 (n .adjusted)) (at20 .put-u323 .ensures)
+    (next 16 (bytes 4 (n .price)) (at16 .put-u322 .ensures)
+    (at12 .put-u32 .ensures))))
 
 pub put-ruled-spec : {M : Type 1} → statement M
 put-ruled-spec =

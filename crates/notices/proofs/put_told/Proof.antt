@@ -1,3 +1,5 @@
+use Rattle.wire.specs.Numbers.{bytes}
+use Rattle.wire.proofs.Stored.{next}
 use borrow.Author.Needs.{needs}
 use Rattle.notices.proofs.put_told.Statement.{statement}
 use Rattle.notices.proofs.put_told.Tie as tie
@@ -15,7 +17,14 @@ same-length : tie.Need-same-length
 same-length c = search needs
 
 returns : tie.Need-returns
-returns c = cc
+returns c =
+    let at20 = c .before .before in
+    let at16 = at20 .before .before .before .before in
+    let at12 = at16 .before .before .before .before in
+    let n = at12 .before .before .before .args .n in
+    next 20 (bytes 4 (n .nullified)) (at20 .put-u323 .ensures)
+    (next 16 (bytes 4 (n .adjusted)) (at16 .put-u322 .ensures)
+    (at12 .put-u32 .ensures))
 
 pub put-told-spec : {M : Type 1} → statement M
 put-told-spec =

@@ -1,3 +1,5 @@
+use denote.Ref.{now}
+use Rattle.wire.proofs.Stored.{four-given}
 use borrow.Author.Needs.{needs}
 use Rattle.writing.proofs.put_flags.Statement.{statement}
 use Rattle.writing.proofs.put_flags.Tie as tie
@@ -21,7 +23,9 @@ same-length : tie.Need-same-length
 same-length c = search needs
 
 returns : tie.Need-returns
-returns c = cc
+returns c =
+    four-given 44 (now (c .before .before .before .before .before .before .before .before .before .args .out)) (c .before .before .put-four .ensures)
+    (c .before .before .before .before .before .before .side-number .ensures) (c .before .before .before .before .before .flag-number .ensures) (c .before .before .before .before .flag-number2 .ensures) (c .before .before .before .flag-number3 .ensures)
 
 pub put-flags-spec : {M : Type 1} → statement M
 put-flags-spec =

@@ -1,3 +1,5 @@
+use Rattle.wire.specs.Numbers.{bytes}
+use Rattle.wire.proofs.Stored.{next}
 use borrow.Author.Needs.{needs}
 use Rattle.writing.proofs.put_head.Statement.{statement}
 use Rattle.writing.proofs.put_head.Tie as tie
@@ -12,7 +14,9 @@ same-length : tie.Need-same-length
 same-length c = search needs
 
 returns : tie.Need-returns
-returns c = cc
+returns c =
+    next 2 (bytes 2 1) (c .before .before .put-u162 .ensures)
+    (c .before .before .before .before .before .before .put-u16 .ensures)
 
 pub put-head-spec : {M : Type 1} → statement M
 put-head-spec = tie.close (tie.spec put-u16-requires put-u16-requires-2 same-length returns)
