@@ -1,3 +1,5 @@
+use mathlib.Core.Path.{ap₂}
+use mathlib.Core.Bool.{_&&_}
 use Rattle.refusals.specs.Tests.{listsOk}
 use borrow.Author.Needs.{needs}
 use Rattle.refusals.proofs.lists_ok.Statement.{statement}
@@ -53,7 +55,10 @@ zero-to-two-requires-2 c κs = search needs
 
 returns : tie.Need-returns
 unfolding listsOk
-returns c = cc
+returns c =
+    let flags = ap₂ _&&_ (ap₂ _&&_ (ap₂ _&&_ (c .before .before .before .before .before .before .before .before .before .before .before .before .before .before .one-or-two .ensures) (c .before .before .before .before .before .before .before .before .before .before .before .before .zero-or-one .ensures)) (c .before .before .before .before .before .before .before .before .before .before .zero-or-one2 .ensures)) (c .before .before .before .before .before .before .before .before .zero-or-one3 .ensures) in
+    let kinds = ap₂ _&&_ (ap₂ _&&_ flags (c .before .before .before .before .before .before .one-to-three .ensures)) (c .before .before .before .before .one-to-three2 .ensures) in
+    ap₂ _&&_ (ap₂ _&&_ kinds (c .before .before .zero-to-two .ensures)) (c .zero-to-two2 .ensures)
 
 pub lists-ok-spec : {M : Type 1} → statement M
 lists-ok-spec =
