@@ -1,5 +1,6 @@
 // Records brought to the desk, good and damaged, and what they get: run and compared with `stdout`, which was
 // worked out by hand from document 01 (see docs/RULEBOOK.md). Each line names the record and gives its number, 0 where it is accepted.
+ghost use Prim.Native.Nat.{_+_, _≤_, _<_};
 use facts::Contracts;
 use facts::Facts;
 use facts::Mills;
@@ -68,6 +69,20 @@ fn reading(name: &[u8], case: [u8; 88]) {
     reading_of(name, &case);
 }
 
+// The good record with one byte changed.
+fn with_byte(name: &[u8], at: usize, b: u8)
+    requires { ⌜ at < 88 ⌝ }
+{
+    reading(name, byte(good(), at, b));
+}
+
+// The good record with a four-byte number changed.
+fn with_word(name: &[u8], at: usize, n: u32)
+    requires { ⌜ at + 4 ≤ 88 ⌝ }
+{
+    reading(name, word(good(), at, n));
+}
+
 // Writes the facts into the first `room` bytes of the buffer.
 fn write_into(f: Facts, room: u8, out: &mut [u8]) -> u8 {
     let end = room as usize;
@@ -116,82 +131,76 @@ fn too_long() {
 }
 
 fn heads() {
-    reading(b"length 89", byte(good(), 0, 89));
-    reading(b"length 344", byte(good(), 1, 1));
-    reading(b"kind 2", byte(good(), 2, 2));
+    with_byte(b"length 89", 0, 89);
+    with_byte(b"length 344", 1, 1);
+    with_byte(b"kind 2", 2, 2);
     reading(b"length turned", byte(byte(good(), 0, 0), 1, 88));
 }
 
 fn zeros() {
-    reading(b"byte 36 is 1", byte(good(), 36, 1));
-    reading(b"byte 39 is 1", byte(good(), 39, 1));
-    reading(b"byte 84 is 1", byte(good(), 84, 1));
-    reading(b"byte 87 is 1", byte(good(), 87, 1));
+    with_byte(b"byte 36 is 1", 36, 1);
+    with_byte(b"byte 39 is 1", 39, 1);
+    with_byte(b"byte 84 is 1", 84, 1);
+    with_byte(b"byte 87 is 1", 87, 1);
 }
 
 fn lists() {
-    reading(b"side 0", byte(good(), 44, 0));
-    reading(b"side 2", byte(good(), 44, 2));
-    reading(b"side 3", byte(good(), 44, 3));
-    reading(b"opening 2", byte(good(), 45, 2));
-    reading(b"expiry deadline 2", byte(good(), 46, 2));
-    reading(b"panel 255", byte(good(), 47, 255));
+    with_byte(b"side 0", 44, 0);
+    with_byte(b"side 2", 44, 2);
+    with_byte(b"side 3", 44, 3);
+    with_byte(b"opening 2", 45, 2);
+    with_byte(b"expiry deadline 2", 46, 2);
+    with_byte(b"panel 255", 47, 255);
 }
 
 fn more_lists() {
-    reading(b"buyer of kind 0", byte(good(), 64, 0));
-    reading(b"buyer of kind 3", byte(good(), 64, 3));
-    reading(b"seller of kind 4", byte(good(), 65, 4));
-    reading(b"day 2", byte(good(), 66, 2));
-    reading(b"day 3", byte(good(), 66, 3));
-    reading(b"agreement 3", byte(good(), 67, 3));
+    with_byte(b"buyer of kind 0", 64, 0);
+    with_byte(b"buyer of kind 3", 64, 3);
+    with_byte(b"seller of kind 4", 65, 4);
+    with_byte(b"day 2", 66, 2);
+    with_byte(b"day 3", 66, 3);
+    with_byte(b"agreement 3", 67, 3);
 }
 
 fn codes() {
-    reading(b"code with '/'", byte(good(), 48, 47));
-    reading(b"code with ':'", byte(good(), 49, 58));
-    reading(b"code with '@'", byte(good(), 50, 64));
-    reading(b"code with '['", byte(good(), 51, 91));
-    reading(b"code with 'a'", byte(good(), 56, 97));
-    reading(b"code with 0", byte(good(), 59, 0));
-    reading(b"both codes alike", word(good(), 56, 842089025));
+    with_byte(b"code with '/'", 48, 47);
+    with_byte(b"code with ':'", 49, 58);
+    with_byte(b"code with '@'", 50, 64);
+    with_byte(b"code with '['", 51, 91);
+    with_byte(b"code with 'a'", 56, 97);
+    with_byte(b"code with 0", 59, 0);
+    with_word(b"both codes alike", 56, 842089025);
 }
 
 fn prices() {
-    reading(
-        b"the March record, bid 3691315200",
-        word(good(), 20, 3691315200),
-    );
-    reading(b"execution none", word(good(), 8, NONE));
-    reading(b"execution 10000000", word(good(), 8, 10000000));
-    reading(b"execution 9999999", word(good(), 8, 9999999));
-    reading(b"offer 10000000", word(good(), 24, 10000000));
-    reading(b"official 10000000", word(good(), 40, 10000000));
-    reading(b"official 0", word(good(), 40, 0));
+    with_word(b"the March record, bid 3691315200", 20, 3691315200);
+    with_word(b"execution none", 8, NONE);
+    with_word(b"execution 10000000", 8, 10000000);
+    with_word(b"execution 9999999", 8, 9999999);
+    with_word(b"offer 10000000", 24, 10000000);
+    with_word(b"official 10000000", 40, 10000000);
+    with_word(b"official 0", 40, 0);
 }
 
 fn more_prices() {
-    reading(b"buyer's limit 10000000", word(good(), 52, 10000000));
-    reading(b"buyer's limit 9999999", word(good(), 52, 9999999));
-    reading(b"seller's limit 4294967294", word(good(), 60, 4294967294));
-    reading(
-        b"agreed 10000000 where none was made",
-        word(good(), 68, 10000000),
-    );
+    with_word(b"buyer's limit 10000000", 52, 10000000);
+    with_word(b"buyer's limit 9999999", 52, 9999999);
+    with_word(b"seller's limit 4294967294", 60, 4294967294);
+    with_word(b"agreed 10000000 where none was made", 68, 10000000);
 }
 
 fn counts() {
-    reading(b"0 contracts", word(good(), 12, 0));
-    reading(b"1000000 contracts", word(good(), 12, 1000000));
-    reading(b"1000001 contracts", word(good(), 12, 1000001));
-    reading(b"bid above zero of size 0", word(good(), 28, 0));
-    reading(b"offer of size 1000001", word(good(), 32, 1000001));
-    reading(b"no bid, size 20", word(good(), 20, NONE));
+    with_word(b"0 contracts", 12, 0);
+    with_word(b"1000000 contracts", 12, 1000000);
+    with_word(b"1000001 contracts", 12, 1000001);
+    with_word(b"bid above zero of size 0", 28, 0);
+    with_word(b"offer of size 1000001", 32, 1000001);
+    with_word(b"no bid, size 20", 20, NONE);
     reading(b"no bid, size 0", word(word(good(), 20, NONE), 28, 0));
 }
 
 fn more_counts() {
-    reading(b"bid of zero, size 20", word(good(), 20, 0));
+    with_word(b"bid of zero, size 20", 20, 0);
     reading(b"bid of zero, size 0", word(word(good(), 20, 0), 28, 0));
     reading(
         b"bid of zero, size 1000001",
@@ -200,11 +209,11 @@ fn more_counts() {
 }
 
 fn times() {
-    reading(b"executed at 86400", word(good(), 16, 86400));
-    reading(b"filed at 86399", word(good(), 72, 86399));
-    reading(b"filed at 86400", word(good(), 72, 86400));
-    reading(b"filed a second before execution", word(good(), 72, 34199));
-    reading(b"filed in the second of execution", word(good(), 72, 34200));
+    with_word(b"executed at 86400", 16, 86400);
+    with_word(b"filed at 86399", 72, 86399);
+    with_word(b"filed at 86400", 72, 86400);
+    with_word(b"filed a second before execution", 72, 34199);
+    with_word(b"filed in the second of execution", 72, 34200);
     reading(
         b"filed earlier by the clock, day 1",
         byte(word(good(), 72, 0), 66, 1),
@@ -212,30 +221,24 @@ fn times() {
 }
 
 fn more_times() {
-    reading(b"accepted after 86400", word(good(), 80, 86400));
-    reading(b"accepted after 86401", word(good(), 80, 86401));
-    reading(
-        b"agreement after 86401 where none was made",
-        word(good(), 76, 86401),
-    );
+    with_word(b"accepted after 86400", 80, 86400);
+    with_word(b"accepted after 86401", 80, 86401);
+    with_word(b"agreement after 86401 where none was made", 76, 86401);
 }
 
 fn limits() {
-    reading(b"execution at the buyer's limit", word(good(), 52, 2000));
-    reading(b"execution above the buyer's limit", word(good(), 52, 1999));
-    reading(b"execution at the seller's limit", word(good(), 60, 2000));
-    reading(
-        b"execution below the seller's limit",
-        word(good(), 60, 2001),
-    );
+    with_word(b"execution at the buyer's limit", 52, 2000);
+    with_word(b"execution above the buyer's limit", 52, 1999);
+    with_word(b"execution at the seller's limit", 60, 2000);
+    with_word(b"execution below the seller's limit", 60, 2001);
 }
 
 fn agreements() {
-    reading(b"a price, no agreement", word(good(), 68, 1500));
-    reading(b"1 second, no agreement", word(good(), 76, 1));
-    reading(b"on a price, none there", byte(good(), 67, 1));
+    with_word(b"a price, no agreement", 68, 1500);
+    with_word(b"1 second, no agreement", 76, 1);
+    with_byte(b"on a price, none there", 67, 1);
     reading(b"on a price, at once", byte(word(good(), 68, 1500), 67, 1));
-    reading(b"to nullify, at once", byte(good(), 67, 2));
+    with_byte(b"to nullify, at once", 67, 2);
     reading(
         b"to nullify, a price there",
         byte(word(good(), 68, 1500), 67, 2),
