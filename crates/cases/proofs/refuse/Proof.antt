@@ -1,7 +1,13 @@
+use Prim.Native.Nat.{ℕ}
+use mathlib.Core.Path.{ap}
+use Rattle.cases.specs.Words.{Facts, Reading}
 use Rattle.cases.specs.Cases.{refused}
 use borrow.Author.Needs.{needs}
 use Rattle.cases.proofs.refuse.Statement.{statement}
 use Rattle.cases.proofs.refuse.Tie as tie
+
+abbrev refusing : ℕ → Facts → Reading
+refusing n f = record { refusal = n; facts = f }
 
 slice-aggregate-facts-of : tie.Need-slice-aggregate-facts-of
 slice-aggregate-facts-of c = search needs
@@ -11,7 +17,7 @@ facts-of-requires c κs = search needs
 
 returns : tie.Need-returns
 unfolding refused
-returns c = cc
+returns c = ap (refusing _) (c .facts-of .ensures)
 
 pub refuse-spec : {M : Type 1} → statement M
 refuse-spec = tie.close (tie.spec slice-aggregate-facts-of facts-of-requires returns)

@@ -1,5 +1,7 @@
+use mathlib.Core.Path.{ap, _∙_}
 use Rattle.facts.proofs.Codes.{spelled}
-use Rattle.theory.specs.Theory.{theoryOf, theoryNumber}
+use Rattle.theory.specs.Words.{Quote}
+use Rattle.theory.specs.Theory.{sourceOf, theoryOf, theoryNumber}
 use Rattle.theory.proofs.Prices.{theory-number}
 use borrow.Author.Needs.{needs}
 use Rattle.theory.proofs.find_theory.Statement.{statement}
@@ -13,7 +15,10 @@ take-source-requires c κs = search needs
 
 returns : tie.Need-returns
 unfolding theoryOf
-returns c = spelled theoryNumber (theory-number (c .before .before .args .side) (c .before .before .args .market)) cc
+returns c =
+    let a = c .before .before .args in
+    spelled theoryNumber (theory-number (a .side) (a .market))
+    (c .take-source .ensures ∙ ap (λ (q : Quote). sourceOf (q .price) (q .size) (a .market .official)) (c .before .quote-for .ensures))
 
 pub find-theory-spec : {M : Type 1} → statement M
 find-theory-spec = tie.close (tie.spec quote-for-requires take-source-requires returns)
