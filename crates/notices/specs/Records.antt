@@ -1,4 +1,4 @@
--- What goes out (01): the ruling record and the two notices, 32 bytes each, a row of the page to a line.
+-- What goes out (01; document 003, Commentary .03): the ruling record and the two notices, 32 bytes each, a row of the page to a line.
 use Prim.Native.Nat.{ℕ}
 use mathlib.Core.Bool.{Bool}
 use mathlib.Core.List.{List, [], _∷_, _++_}

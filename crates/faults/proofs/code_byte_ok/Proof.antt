@@ -1,7 +1,15 @@
-use Rattle.wire.proofs.Tests.{ranges}
+use Rattle.wire.specs.Tests.{inRange}
+use mathlib.Core.Logic.{⊎-elim}
+use mathlib.Core.Bool.{false}
+use mathlib.Core.Path.{_≡_}
 use Rattle.refusals.specs.Tests.{codeByteOk}
+use Rattle.wire.proofs.Tests.{ranges, range-low, range-high}
+use borrow.Author.Needs.{needs}
 use Rattle.faults.proofs.code_byte_ok.Statement.{statement}
 use Rattle.faults.proofs.code_byte_ok.Tie as tie
+
+is-digit-requires : tie.Need-is-digit-requires
+is-digit-requires c κs = search needs
 
 returns : tie.Need-returns
 unfolding codeByteOk
@@ -9,19 +17,10 @@ returns c = search ranges fits 60
 
 returns-2 : tie.Need-returns-2
 unfolding codeByteOk
-returns-2 c = search ranges fits 60
-
-returns-3 : tie.Need-returns-3
-unfolding codeByteOk
-returns-3 c = search ranges fits 60
-
-returns-4 : tie.Need-returns-4
-unfolding codeByteOk
-returns-4 c = search ranges fits 60
-
-returns-5 : tie.Need-returns-5
-unfolding codeByteOk
-returns-5 c = search ranges fits 60
+returns-2 c =
+    let b = c .before .before .args .b in
+    let no : inRange 65 90 b ≡ false = ⊎-elim (λ t. range-low 65 90 b (t .taken)) (λ e. range-high 65 90 b (e .1 .left)) (c .before .if1 .came) in
+    simp no (c .is-digit .ensures)
 
 pub code-byte-ok-spec : {M : Type 1} → statement M
-code-byte-ok-spec = tie.close (tie.spec returns returns-2 returns-3 returns-4 returns-5)
+code-byte-ok-spec = tie.close (tie.spec is-digit-requires returns returns-2)
