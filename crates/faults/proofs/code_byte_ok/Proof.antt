@@ -3,7 +3,7 @@ use mathlib.Core.Logic.{⊎-elim}
 use mathlib.Core.Bool.{false}
 use mathlib.Core.Path.{_≡_}
 use Rattle.refusals.specs.Tests.{codeByteOk}
-use Rattle.wire.proofs.Tests.{ranges, range-low, range-high}
+use Rattle.wire.proofs.Tests.{range-in, range-low, range-high}
 use borrow.Author.Needs.{needs}
 use Rattle.faults.proofs.code_byte_ok.Statement.{statement}
 use Rattle.faults.proofs.code_byte_ok.Tie as tie
@@ -13,7 +13,7 @@ is-digit-requires c κs = search needs
 
 returns : tie.Need-returns
 unfolding codeByteOk
-returns c = search ranges fits 60
+returns c = simp (range-in 65 90 _ (c .before .if1 .left) (c .if2 .taken))
 
 returns-2 : tie.Need-returns-2
 unfolding codeByteOk

@@ -4,8 +4,8 @@ use Rattle.facts.specs.declared.Price.{Price}
 use Rattle.facts.specs.Codes.{priceNumber}
 use Rattle.ruling.specs.declared.Counts.{Counts}
 use Rattle.ruling.specs.Reasons.{outcomeNumber, newPrice, countsOf}
-use Rattle.notices.specs.Words.{Ruling}
-use Rattle.notices.specs.Records.{figuresOf}
+use Rattle.figures.specs.Words.{Ruling}
+use Rattle.figures.specs.Figures.{figuresOf}
 use borrow.Author.Needs.{needs}
 use Rattle.figures.proofs.figures_of.Statement.{statement}
 use Rattle.figures.proofs.figures_of.Tie as tie
