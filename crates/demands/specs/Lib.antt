@@ -1,5 +1,10 @@
+pub mod Ends
+mod Why
+pub mod Demand1
+pub mod Demand2
 pub mod RoundTrips
-pub mod Laws
 pub mod Demand3
-pub mod Edges
+pub mod Laws
 pub mod Sheets
+pub mod Edges
+pub mod Exact

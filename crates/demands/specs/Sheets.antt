@@ -22,8 +22,8 @@ pub counts : (s : List ℕ) (room : ℕ) → sheetOf s room .0 .refusal ≡ 0
     × (sheetOf s room .0 .ruled + sheetOf s room .0 .refused ≡ casesIn s)
 counts s room e = rw (answered s room e) (written-counts s (casesIn s), omega (arith, ruled-within s (casesIn s)))
 
--- Reordering a sheet only reorders the answers and the indexes: where case k of t is case σ k of s, t's answer is s's judgements in that
--- order, each with its new index.
+-- Reordering a sheet only reorders the answers and the indexes (`Laws` says it of the whole answer): where case k of t is case σ k of s, t's
+-- answer is s's judgements in that order, each with its new index.
 pub reordered : (s t : List ℕ) (σ : ℕ → ℕ) (n : ℕ) → ((k : ℕ) → k < n → caseAt t k ≡ caseAt s (σ k))
     → row (entryOf t) n ≡ row (λ k. entryBytes k (readingOf (caseAt s (σ k)))) n
 reordered = order.reordered

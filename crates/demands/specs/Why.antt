@@ -1,0 +1,160 @@
+-- Why demand 1 and the law of reordering hold: what a row of tests gives back, and what the definitions make of it. Nothing is promised here.
+use Prim.Native.Nat.{ℕ, _-_, _*_, _≤_, _<_, zero-le}
+use mathlib.Core.Path.{_≡_, refl, ap, subst, _∙_}
+use mathlib.Core.Bool.{Bool, true, false}
+use mathlib.Core.Logic.{_⊎_, inl, inr}
+use mathlib.Core.List.{List, [], _∷_, _++_}
+use native.Mathlib.Omega.{arith}
+use lib.ListN.{length, length-append, length-take, length-drop}
+use lib.Dec.{leb, eqb}
+use borrow.Author.Tests.{leb-true, le-leb, eq-eqb, eqb-true, eqb-false}
+use Rattle.wire.specs.Laid.{laid, row}
+use Rattle.wire.specs.Tests.{pick, firstFailed}
+use Rattle.wire.proofs.Tests.{either, none-fails}
+use Rattle.wire.proofs.Rows.{row-most}
+use Rattle.record.specs.Record.{factsOf, recordBytes}
+use Rattle.refusals.specs.Tests.{lengthOk, byteTests, factTests}
+use Rattle.cases.specs.Words.{Facts}
+use Rattle.cases.specs.Cases.{refusalOf, readingOf, writeRefusalOf}
+use Rattle.cases.proofs.Laws.{read-number}
+use Rattle.answer.specs.Answer.{caseRefusalOf, answerOf}
+use Rattle.answer.proofs.Cases.{answer-length}
+use Rattle.sheet.specs.declared.SheetAnswer.{SheetAnswer}
+use Rattle.sheet.specs.Sheet.{caseAt, casesIn, refusalBytes, entryBytes, entryOf, ruledIn, wholeCases, sheetRefusalOf, refusedWhole, ruledWhole, sheetOf}
+use Rattle.sheet.proofs.Turns.{whole-length}
+use Rattle.lines.specs.Lines.{sheetLine}
+use Rattle.lines.proofs.Lengths.{header-most, end-most, sheet-most}
+use Rattle.report.specs.Report.{lineOf, ruledText, textOf}
+use Rattle.report.proofs.Lines.{line-most}
+use Rattle.demands.specs.Ends.{entryNumbers, OneOf, Told, Answered, Ended, SheetAnswered, SheetEnded, Entered}
+
+-- ---- a row of tests gives 0 or one of its numbers
+abbrev numbersOf : List (ℕ × Bool) → List ℕ
+numbersOf [] = []
+numbersOf ((n, ok) ∷ tests) = n ∷ numbersOf tests
+
+pub told : (tests : List (ℕ × Bool)) → Told (numbersOf tests) (firstFailed tests)
+told [] = inl refl
+told ((n, true) ∷ tests) = later (told tests) where
+  later : Told (numbersOf tests) (firstFailed tests) → Told (n ∷ numbersOf tests) (firstFailed tests)
+  later (inl e) = inl e
+  later (inr o) = inr (inr o)
+told ((n, false) ∷ tests) = inr (inl refl)
+
+other : (numbers : List ℕ) (n : ℕ) → Told numbers n → eqb n 0 ≡ false → OneOf numbers n
+other numbers n (inl e) h = absurd (eqb-false n 0 h e)
+other numbers n (inr o) h = o
+
+-- ---- a case: bytes where the number is 0, none where it is another
+pub answered : (size room : ℕ) (numbers : List ℕ) (n : ℕ) (w : List ℕ) → Told numbers n → (n ≡ 0 → size ≤ room) → length w ≡ size
+    → Answered size numbers room (pick {A = ℕ × List ℕ} (eqb n 0) (0, w) (n, []))
+answered size room numbers n w t fits long =
+    either (Answered size numbers room) (eqb n 0) (0, w) (n, []) (λ h. inl (refl, fits (eqb-true n 0 h), long)) (λ h. inr (other numbers n t h, refl))
+
+-- and written into the buffer
+pub ended : (size : ℕ) (numbers : List ℕ) (a : ℕ × List ℕ) (n : ℕ) (l m : List ℕ) → Answered size numbers (length l) a
+    → (n ≡ a .0) × (m ≡ laid (a .1) l) → Ended size numbers n l m
+unfolding laid
+ended size numbers a n l m (inl e) p = inl (p .0 ∙ e .0, e .1, (a .1, e .2, p .1))
+ended size numbers a n l m (inr e) p = inr (rw (p .0) (e .0), p .1 ∙ ap (λ (w : List ℕ). laid w l) (e .1))
+
+-- a case that is ruled had room, and so had facts that are written, whose record has 88 bytes
+pub case-fits : (s : List ℕ) (room : ℕ) → caseRefusalOf s room ≡ 0 → 96 ≤ room
+unfolding caseRefusalOf
+case-fits s room e = leb-true 96 room (none-fails (leb 96 room) 11 _ tt (none-fails (lengthOk s) 1 _ tt e .1) .0)
+
+pub write-fits : (f : Facts) (room : ℕ) → writeRefusalOf f room ≡ 0 → 88 ≤ room
+unfolding writeRefusalOf
+write-fits f room e = leb-true 88 room (none-fails (leb 88 room) 11 _ tt e .0)
+
+pub record-length : (f : Facts) → length (recordBytes f) ≡ 88
+record-length f = refl
+
+-- ---- a sheet: the row where the number is 0, nothing where it is 10 or 11
+module _ (s : List ℕ) (room : ℕ) where
+  abbrev number : ℕ
+  number = sheetRefusalOf s room
+
+  sheet-fits : number ≡ 0 → casesIn s * 96 ≤ room
+  unfolding sheetRefusalOf
+  sheet-fits e = leb-true (casesIn s * 96) room (none-fails (leb (casesIn s * 96) room) 11 _ tt (none-fails (wholeCases s) 10 _ tt e .1) .0)
+
+  refused-whole : (n : ℕ) → OneOf (10 ∷ 11 ∷ []) n → SheetAnswered s room (refusedWhole n)
+  refused-whole n (inl e) = inr (inl (ap refusedWhole e))
+  refused-whole n (inr (inl e)) = inr (inr (ap refusedWhole e))
+
+  sheet-told : Told (10 ∷ 11 ∷ []) number
+  unfolding sheetRefusalOf
+  sheet-told = told ((10, wholeCases s) ∷ (11, leb (casesIn s * 96) room) ∷ [])
+
+  pub sheet-answered : SheetAnswered s room (sheetOf s room)
+  unfolding sheetOf
+  sheet-answered =
+      either (SheetAnswered s room) (eqb number 0) (ruledWhole s (casesIn s)) (refusedWhole number)
+      (λ h. inl (refl, sheet-fits (eqb-true number 0 h)))
+      (λ h. refused-whole number (other (10 ∷ 11 ∷ []) number sheet-told h))
+
+pub empty-sheet : (room : ℕ) → sheetOf [] room ≡ (record { refusal = 0; written = 0; ruled = 0; refused = 0 }, [])
+unfolding sheetOf sheetRefusalOf wholeCases row ruledIn
+empty-sheet room = simp (le-leb 0 room zero-le)
+
+-- and written into the buffer
+module _ {A : Type 0} (view : SheetAnswer → A) (s : List ℕ) (r : A) (l m : List ℕ) where
+  abbrev Left : SheetAnswer × List ℕ → Type 0
+  Left a = (r ≡ view (a .0)) × (m ≡ laid (a .1) l)
+
+  pub sheet-ended : (a : SheetAnswer × List ℕ) → SheetAnswered s (length l) a → Left a → SheetEnded view s r l m
+  unfolding laid
+  sheet-ended a (inl h) p = let q = subst Left (h .0) p in inl (q .0, h .1, q .1)
+  sheet-ended a (inr (inl h)) p = let q = subst Left h p in inr (inl (q .0), q .1)
+  sheet-ended a (inr (inr h)) p = let q = subst Left h p in inr (inr (q .0), q .1)
+
+-- two sheets of one length, with as many cases ruled and as many bytes written, have the same answer
+module _ (s t : List ℕ) (n : ℕ) (ruled : ruledIn s n ≡ ruledIn t n) (written : length (row (entryOf s) n) ≡ length (row (entryOf t) n)) where
+  picked : (b : Bool) (m : ℕ) → pick b (ruledWhole t n) (refusedWhole m) .0 ≡ pick b (ruledWhole s n) (refusedWhole m) .0
+  picked true m = rw (ruled, written) refl
+  picked false m = refl
+
+pub same-answer : (s t : List ℕ) (room : ℕ) → length s ≡ length t → ruledIn s (casesIn s) ≡ ruledIn t (casesIn s)
+    → length (row (entryOf s) (casesIn s)) ≡ length (row (entryOf t) (casesIn s)) → sheetOf t room .0 ≡ sheetOf s room .0
+unfolding sheetOf sheetRefusalOf wholeCases
+same-answer s t room long ruled written = rw (← long) (picked s t (casesIn s) ruled written (eqb (sheetRefusalOf s room) 0) (sheetRefusalOf s room))
+
+-- ---- a case of a sheet has 88 bytes, so its number is not 1
+module _ (s : List ℕ) (k : ℕ) (within : k < casesIn s) where
+  abbrev c : List ℕ
+  c = caseAt s k
+
+  abbrev n : ℕ
+  n = readingOf c .refusal
+
+  whole : length c ≡ 88
+  unfolding caseAt
+  whole = simp (length-take, length-drop) (omega arith)
+
+  entry-told : Told entryNumbers n
+  unfolding refusalOf
+  entry-told = rw (read-number c) (simp (eq-eqb (length c) 88 whole) (told (byteTests c ++ factTests (factsOf c))))
+
+  abbrev As : List ℕ → Type 0
+  As w = ((n ≡ 0) × (w ≡ answerOf (readingOf c .facts)) × (length w ≡ 96)) ⊎ (OneOf entryNumbers n × (w ≡ refusalBytes k n) × (length w ≡ 12))
+
+  pub entered : Entered s k
+  unfolding entryBytes refusalBytes
+  entered = either As (eqb n 0) _ _ (λ h. inl (eqb-true n 0 h, refl, answer-length (readingOf c .facts))) (λ h. inr (other entryNumbers n entry-told h, refl, refl))
+
+-- ---- the printer's text: 600 lines of 85 bytes at most, the header and END
+module _ (s : List ℕ) where
+  pub text-answered : (textOf s ≡ ruledText s (casesIn s)) ⊎ (textOf s ≡ sheetLine 10)
+  unfolding textOf
+  text-answered = either (λ (t : List ℕ). (t ≡ ruledText s (casesIn s)) ⊎ (t ≡ sheetLine 10)) (wholeCases s) _ _ (λ h. inl refl) (λ h. inr refl)
+
+  whole-fits : (n : ℕ) → n ≤ 600 → length (ruledText s n) ≤ 65536
+  whole-fits n h =
+      rw (length-append, length-append)
+      (omega (arith, header-most, row-most (lineOf s) 85 (λ k. line-most k _) n, end-most (ruledIn s n) (n - ruledIn s n)))
+
+  pub text-fits : length (textOf s) ≤ 65536
+  unfolding textOf
+  text-fits =
+      either (λ (t : List ℕ). length t ≤ 65536) (wholeCases s) _ _ (λ h. whole-fits (casesIn s) (omega (arith, whole-length s h))) (λ h. omega (arith, sheet-most 10))
