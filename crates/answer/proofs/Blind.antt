@@ -22,7 +22,7 @@ use Rattle.ruling.specs.Ruling.{rulingOf}
 use Rattle.act.specs.Tested.{altered, Alike}
 use Rattle.ruling.specs.Tested.{testedIn, alteredFacts}
 use Rattle.ruling.proofs.Blind.{same-ruling}
-use Rattle.notices.specs.Records.{rulingRecord, shows, shownCode, noticeRecord, answerBytes}
+use Rattle.notices.specs.Records.{rulingRecord, shows, shownCode, noticeRecord, answerRecords, answerBytes}
 use Rattle.answer.specs.Words.{Price, Side, Buy, Sell, Facts, Outcome, NoRelief, Adjusted, Nullified, Waiting, Ruling}
 use Rattle.answer.specs.Answer.{answerOf, caseOf}
 use Rattle.answer.specs.Blind.{partyPlace, codeIn, limitIn, Outside, AlikeBut, Untold, Blind}
@@ -110,7 +110,7 @@ shown-four (Waiting c) x y z w = refl
 blind-answers : (who : Side) (s t : List ℕ) (r : Ruling) (other : List ℕ)
     → Blind who s t (answerBytes r (bySide who (codeIn who s) other) (bySide who other (codeIn who s)))
     (answerBytes r (bySide who (codeIn who t) other) (bySide who other (codeIn who t)))
-unfolding answerBytes rulingRecord noticeRecord
+unfolding answerRecords rulingRecord noticeRecord
 blind-answers Buy s t r other =
     record { ruling = refl; before = refl; after = refl; first = shown-four (r .outcome) _ _ _ _; second = shown-four (r .outcome) _ _ _ _ }
 blind-answers Sell s t r other =

@@ -40,13 +40,13 @@ module _ (s : List ℕ) (room : ℕ) where
       pub case-refused : (n ≡ 0 → ⊥) → caseOf s room ≡ (n, [])
       case-refused h = refusing n as-read h
 
-      pub case-ruled : n ≡ 0 → (f : Facts) → f ≡ factsOf s → caseOf s room ≡ (0, answerOf f)
+      pub case-ruled : n ≡ 0 → caseOf s room ≡ (0, answerOf (factsOf s))
       unfolding caseOf
-      case-ruled h f says = simp (eq-eqb (caseRefusalOf s room) 0 (as-read ∙ h), says)
+      case-ruled h = simp (eq-eqb (caseRefusalOf s room) 0 (as-read ∙ h))
 
   -- every accepted case is ruled where there is room
   pub accepted-ruled : readingOf s .refusal ≡ 0 → 96 ≤ room → caseOf s room ≡ (0, answerOf (factsOf s))
-  accepted-ruled e fits = let z = accepts s e in case-ruled (passed-whole s z) fits (refusalOf s) refl z (factsOf s) refl
+  accepted-ruled e fits = let z = accepts s e in case-ruled (passed-whole s z) fits (refusalOf s) refl z
 
 -- an answer is 96 bytes
 pub answer-length : (f : Facts) → length (answerOf f) ≡ 96

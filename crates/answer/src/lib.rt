@@ -4,19 +4,17 @@ ghost use mathlib.Core.Path.{_≡_};
 ghost use Prim.Native.Nat.{_≤_};
 ghost use lib.ListN.{length};
 ghost use Rattle.wire.specs.Laid.{laid};
+ghost use Rattle.record.specs.Record.{factsOf};
 ghost use Rattle.answer.specs.Answer.{answerOf, caseOf};
-use facts::Facts;
 
-// Rules these facts and writes the 96 bytes over the start of the buffer; every byte after them stays.
-pub fn answer_facts(out: &mut [u8], f: Facts)
-    requires { ⌜ 96 ≤ length (now out) ⌝ }
-    ensures { λ _. ⌜ now (out .exit) ≡ laid (answerOf f) (now (out .entry)) ⌝ }
+// Rules a case of 88 bytes that passed the tests, and writes the 96 bytes over the start of the buffer; every byte after them stays.
+pub fn answer_case(out: &mut [u8], case: &[u8])
+    requires { ⌜ (96 ≤ length (now out)) × (length (now case) ≡ 88) ⌝ }
+    ensures { λ _. ⌜ now (out .exit) ≡ laid (answerOf (factsOf (now (case .entry)))) (now (out .entry)) ⌝ }
 {
-    let buyer = f.buyer;
-    let bought = buyer.code;
-    let seller = f.seller;
-    let sold = seller.code;
-    notices::put_answer(out, ruling::rule(f), bought, sold);
+    let buyer = record::code_at(case, 48);
+    let seller = record::code_at(case, 56);
+    notices::put_answer(out, figures::judge(case), buyer, seller);
 }
 
 // Rules a case: tests 1, 11, then 2 to 9. Answers the number, 0 where the 96 bytes are written.
@@ -33,6 +31,6 @@ pub fn rule_case(case: &[u8], out: &mut [u8]) -> u8
     if n != 0 {
         return n;
     }
-    answer_facts(out, record::facts_of(case));
+    answer_case(out, case);
     0
 }

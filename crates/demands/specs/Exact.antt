@@ -102,6 +102,9 @@ pub violates-exact : Exact (facts.violates.Reads.Post tt)
 violates-exact (s, (l, (x, _))) = facts.Exact.violates-exact s l x
 
 -- ---- record, writing
+pub code-at-exact : (κs : Lfts 1) → Exact (records.code_at.Reads.Post κs)
+code-at-exact κs (s, (at, _)) = records.Exact.code-at-exact κs s at
+
 pub facts-of-exact : (κs : Lfts 1) → Exact (records.facts_of.Reads.Post κs)
 facts-of-exact κs (s, _) = records.Exact.facts-of-exact κs s
 
@@ -190,12 +193,15 @@ rule-exact (f, _) = ruling.Exact.rule-exact f
 pub figures-of-exact : Exact (figures.figures_of.Reads.Post tt)
 figures-of-exact (r, _) = figures.Exact.figures-of-exact r
 
+pub judge-exact : (κs : Lfts 1) → Exact (figures.judge.Reads.Post κs)
+judge-exact κs (s, _) = figures.Exact.judge-exact κs s
+
 pub put-answer-exact : (κs : Lfts 1) → ExactIn (λ a. a .0) (notices.put_answer.Reads.Post κs)
 put-answer-exact κs (out, (ruling, (buyer, (seller, _)))) (o, _) (o', _) r r' p q = (refl, notices.Exact.put-answer-exact κs out ruling buyer seller o o' p q)
 
 -- ---- answer, sheet
-pub answer-facts-exact : (κs : Lfts 1) → ExactIn (λ a. a .0) (answer.answer_facts.Reads.Post κs)
-answer-facts-exact κs (out, (f, _)) (o, _) (o', _) r r' p q = (refl, answer.Exact.answer-facts-exact κs out f o o' p q)
+pub answer-case-exact : (κs : Lfts 2) → ExactIn (λ a. a .0) (answer.answer_case.Reads.Post κs)
+answer-case-exact κs (out, (case, _)) (o, _) (o', _) r r' p q = (refl, answer.Exact.answer-case-exact κs out case o o' p q)
 
 pub rule-case-exact : (κs : Lfts 2) → ExactIn (λ a. a .1 .0) (answer.rule_case.Reads.Post κs)
 rule-case-exact κs (s, (b, _)) (_, (o, _)) (_, (o', _)) r r' = answer.Exact.rule-case-exact κs s b r r' o o'

@@ -1,6 +1,9 @@
 // A ruling in the page's numbers: what the record, the notices and the printed line have in common. Refuses nothing: every ruling has
 // its figures.
 ghost use mathlib.Core.Path.{_≡_};
+ghost use lib.ListN.{length};
+ghost use Rattle.record.specs.Record.{factsOf};
+ghost use Rattle.ruling.specs.Ruling.{rulingOf};
 ghost use Rattle.ruling.specs.Reasons.{outcomeNumber, newPrice, countsOf};
 ghost use Rattle.figures.specs.Figures.{figuresOf};
 use facts::Price;
@@ -72,4 +75,12 @@ pub fn figures_of(r: Ruling) -> Figures
         nullified: counts.nullified.0,
         standing: counts.standing.0,
     }
+}
+
+// The ruling on a case of 88 bytes, in the page's numbers. Reading and ruling in one call, so that the facts need not pass through memory.
+pub fn judge(case: &[u8]) -> Figures
+    requires { ⌜ length (now case) ≡ 88 ⌝ }
+    ensures { λ n. ⌜ n ≡ figuresOf (rulingOf (factsOf (now (case .entry)))) ⌝ }
+{
+    figures_of(ruling::rule(record::facts_of(case)))
 }

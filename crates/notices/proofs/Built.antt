@@ -6,7 +6,7 @@ use lib.ListN.{length, replicate}
 use Rattle.wire.specs.Numbers.{elements, stored}
 use Rattle.facts.specs.Codes.{sideNumber}
 use Rattle.notices.specs.Words.{Side, Ruling, Figures}
-use Rattle.notices.specs.Records.{headBytes, ruledBytes, rulingRecord, rulingBytes, toldBytes, shownCode, codeBytes, noticeRecord, noticeBytes, answerBytes}
+use Rattle.notices.specs.Records.{headBytes, ruledBytes, rulingRecord, rulingBytes, toldBytes, shownCode, codeBytes, noticeRecord, noticeBytes, answerRecords, answerBytes}
 
 pub codes-built : (outcome : ℕ) (code other shown o o₁ o₂ : List ℕ)
     → shown ≡ shownCode outcome other
@@ -44,5 +44,5 @@ unfolding noticeRecord
 notice-length r recipient code other = refl
 
 pub answer-length : (r : Ruling) (buyer seller : List ℕ) → length (answerBytes r buyer seller) ≡ 96
-unfolding answerBytes rulingRecord noticeRecord
+unfolding answerRecords rulingRecord noticeRecord
 answer-length r buyer seller = refl

@@ -72,5 +72,8 @@ abbrev pub noticeBytes : Ruling → Side → List ℕ → List ℕ → List ℕ
 noticeBytes r recipient code other = noticeRecord (figuresOf r) recipient code other
 
 -- ---- an answer, 96 bytes: the ruling record, the buyer's notice, the seller's notice
-unfoldable pub answerBytes : Ruling → List ℕ → List ℕ → List ℕ
-answerBytes r buyer seller = rulingBytes r ++ noticeBytes r Buy buyer seller ++ noticeBytes r Sell seller buyer
+unfoldable pub answerRecords : Figures → List ℕ → List ℕ → List ℕ
+answerRecords n buyer seller = rulingRecord n ++ noticeRecord n Buy buyer seller ++ noticeRecord n Sell seller buyer
+
+abbrev pub answerBytes : Ruling → List ℕ → List ℕ → List ℕ
+answerBytes r buyer seller = answerRecords (figuresOf r) buyer seller

@@ -5,10 +5,9 @@ ghost use Prim.Native.Nat.{_+_, _≤_};
 ghost use lib.ListN.{length};
 ghost use Rattle.wire.specs.Numbers.{elements, stored};
 ghost use Rattle.wire.specs.Laid.{laid};
-ghost use Rattle.notices.specs.Records.{headBytes, ruledBytes, rulingRecord, toldBytes, shows, shownCode, codeBytes, noticeRecord, answerBytes};
+ghost use Rattle.notices.specs.Records.{headBytes, ruledBytes, rulingRecord, toldBytes, shows, shownCode, codeBytes, noticeRecord, answerRecords};
 use facts::Side;
 use figures::Figures;
-use ruling::Ruling;
 
 // ---- whether a party learns the other's code
 
@@ -102,11 +101,10 @@ fn put_notice(out: &mut [u8], n: Figures, recipient: Side, code: [u8; 4], other:
 
 // The answer to a case: the ruling record, the buyer's notice, the seller's notice, over the first 96 bytes of the buffer; every
 // byte after them stays.
-pub fn put_answer(out: &mut [u8], r: Ruling, buyer: [u8; 4], seller: [u8; 4])
+pub fn put_answer(out: &mut [u8], n: Figures, buyer: [u8; 4], seller: [u8; 4])
     requires { ⌜ 96 ≤ length (now out) ⌝ }
-    ensures { λ _. ⌜ now (out .exit) ≡ laid (answerBytes r buyer seller) (now (out .entry)) ⌝ }
+    ensures { λ _. ⌜ now (out .exit) ≡ laid (answerRecords n buyer seller) (now (out .entry)) ⌝ }
 {
-    let n = figures::figures_of(r);
     put_ruling(out, n);
     put_notice(&mut out[32..], n, Side::Buy, buyer, seller);
     put_notice(&mut out[64..], n, Side::Sell, seller, buyer);

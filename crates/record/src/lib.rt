@@ -16,7 +16,8 @@ use facts::Seconds;
 use facts::Settlement;
 use facts::Trade;
 
-fn code_at(s: &[u8], at: usize) -> [u8; 4]
+// The four bytes of a member code.
+pub fn code_at(s: &[u8], at: usize) -> [u8; 4]
     requires { ⌜ at + 4 ≤ length (now s) ⌝ }
     ensures { λ r. ⌜ r ≡ elements 4 (now (s .entry)) at ⌝ }
 {

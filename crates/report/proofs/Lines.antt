@@ -21,7 +21,7 @@ use Rattle.sheet.specs.Sheet.{casesIn, ruledOne, ruledIn, wholeCases}
 use Rattle.sheet.proofs.Entries.{told-ruled, told-refused, told-number, told-facts, entered, one-ruled, one-refused}
 use Rattle.lines.specs.Lines.{header, ruledLine, refusedLine, endLine, sheetLine}
 use Rattle.lines.proofs.Lengths.{ruled-most, refused-most, end-most}
-use Rattle.report.specs.Words.{Facts, Reading, Ruling, Figures}
+use Rattle.report.specs.Words.{Facts, Reading, Figures}
 use Rattle.report.specs.Report.{caseLine, lineOf, ruledText, textOf}
 
 module _ (k : ℕ) (r : Reading) where
@@ -45,12 +45,10 @@ module _ (k : ℕ) (s l m : List ℕ) (n : ℕ) (e : n ≡ refusalOf s) where
   abbrev Entered : ℕ → ℕ → Type 0
   Entered bytes ruled = (bytes ≡ length (caseLine k (readingOf s))) × (ruled ≡ ruledOne (readingOf s)) × (m ≡ laid (caseLine k (readingOf s)) l)
 
-  pub put-ruled-line : n ≡ 0 → (f : Facts) (r : Ruling) (g : Figures) → f ≡ factsOf s → r ≡ rulingOf f → g ≡ figuresOf r
-      → (bytes : ℕ) → (bytes ≡ length (ruledLine g)) × (m ≡ laid (ruledLine g) l) → Entered bytes 1
-  put-ruled-line h f r g says rules spells bytes w =
+  pub put-ruled-line : n ≡ 0 → (g : Figures) → g ≡ figuresOf (rulingOf (factsOf s)) → (bytes : ℕ) → (bytes ≡ length (ruledLine g)) × (m ≡ laid (ruledLine g) l) → Entered bytes 1
+  put-ruled-line h g judged bytes w =
       let z = told-ruled s n e h in
-      let same : ruledLine (figuresOf (rulingOf (readingOf s .facts))) ≡ ruledLine g =
-      ap (λ (x : Facts). ruledLine (figuresOf (rulingOf x))) (told-facts s n e f h says) ∙ ap (λ (x : Ruling). ruledLine (figuresOf x)) (sym rules) ∙ ap ruledLine (sym spells) in
+      let same = ap (λ (x : Facts). ruledLine (figuresOf (rulingOf x))) (told-facts s n e h) ∙ ap ruledLine (sym judged) in
       entered caseLine k (readingOf s) (ruledLine g) l m bytes 1 (line-ruled k (readingOf s) z ∙ same) (w .0) (one-ruled (readingOf s) z) (w .1)
 
   pub put-refused-line : (n ≡ 0 → ⊥) → (bytes : ℕ) → (bytes ≡ length (refusedLine k n)) × (m ≡ laid (refusedLine k n) l) → Entered bytes 0

@@ -21,9 +21,8 @@ fn put_case(case: &[u8], index: u32, out: &mut [u8]) -> Printed
 {
     let number = cases::check_case(case);
     if number == 0 {
-        let n = figures::figures_of(ruling::rule(record::facts_of(case)));
         return Printed {
-            bytes: lines::put_ruled(out, n),
+            bytes: lines::put_ruled(out, figures::judge(case)),
             ruled: 1,
         };
     }

@@ -14,7 +14,7 @@ use Rattle.cases.specs.Cases.{refusalOf, readingOf}
 use Rattle.cases.proofs.Laws.{read-number, accepted-at}
 use Rattle.answer.specs.Answer.{answerOf}
 use Rattle.answer.proofs.Cases.{answer-length}
-use Rattle.sheet.specs.Words.{Facts, Reading}
+use Rattle.sheet.specs.Words.{Reading}
 use Rattle.sheet.specs.Sheet.{refusalBytes, entryBytes, ruledOne}
 
 refusal-length : (k n : ℕ) → length (refusalBytes k n) ≡ 12
@@ -64,8 +64,8 @@ module _ (s : List ℕ) (n : ℕ) (e : n ≡ refusalOf s) where
   pub told-number : readingOf s .refusal ≡ n
   told-number = read-number s ∙ sym e
 
-  pub told-facts : (f : Facts) → n ≡ 0 → f ≡ factsOf s → readingOf s .facts ≡ f
-  told-facts f h says = ap (λ (r : Reading). r .facts) (accepted-at s (sym e ∙ h)) ∙ sym says
+  pub told-facts : n ≡ 0 → readingOf s .facts ≡ factsOf s
+  told-facts h = ap (λ (r : Reading). r .facts) (accepted-at s (sym e ∙ h))
 
 pub entered : (f : ℕ → Reading → List ℕ) (k : ℕ) (r : Reading) (w l m : List ℕ) (bytes one : ℕ)
     → f k r ≡ w → bytes ≡ length w → ruledOne r ≡ one → m ≡ laid w l
@@ -76,10 +76,10 @@ module _ (k : ℕ) (s l m : List ℕ) (n : ℕ) (e : n ≡ refusalOf s) where
   abbrev Entered : ℕ → ℕ → Type 0
   Entered bytes ruled = (bytes ≡ length (entryBytes k (readingOf s))) × (ruled ≡ ruledOne (readingOf s)) × (m ≡ laid (entryBytes k (readingOf s)) l)
 
-  pub enter-ruled : n ≡ 0 → (f : Facts) → f ≡ factsOf s → m ≡ laid (answerOf f) l → Entered 96 1
-  enter-ruled h f says w =
+  pub enter-ruled : n ≡ 0 → m ≡ laid (answerOf (factsOf s)) l → Entered 96 1
+  enter-ruled h w =
       let z = told-ruled s n e h in
-      entered entryBytes k (readingOf s) (answerOf f) l m 96 1 (entry-ruled k (readingOf s) z ∙ ap answerOf (told-facts s n e f h says)) (sym (answer-length f)) (one-ruled (readingOf s) z) w
+      entered entryBytes k (readingOf s) (answerOf (factsOf s)) l m 96 1 (entry-ruled k (readingOf s) z ∙ ap answerOf (told-facts s n e h)) (sym (answer-length (factsOf s))) (one-ruled (readingOf s) z) w
 
   pub enter-refused : (n ≡ 0 → ⊥) → m ≡ laid (refusalBytes k n) l → Entered 12 0
   enter-refused h w =

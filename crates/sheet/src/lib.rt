@@ -41,7 +41,7 @@ fn rule_entry(case: &[u8], index: u32, out: &mut [u8]) -> Entry
 {
     let n = cases::check_case(case);
     if n == 0 {
-        answer::answer_facts(out, record::facts_of(case));
+        answer::answer_case(out, case);
         return Entry {
             bytes: 96,
             ruled: 1,

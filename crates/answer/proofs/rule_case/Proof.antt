@@ -19,11 +19,8 @@ returns-3 c =
     let room = n .before in
     ends _ _ _ (case-refused _ _ (room .before .if1 .left) (room .if2 .left) _ (n .check-case .ensures) (c .if3 .taken)) (laid-none _)
 
-facts-of-requires : tie.Need-facts-of-requires
-facts-of-requires c κs = c .before .before .before .before .if1 .left
-
-answer-facts-requires : tie.Need-answer-facts-requires
-answer-facts-requires c κs = search needs
+answer-case-requires : tie.Need-answer-case-requires
+answer-case-requires c κs = search needs
 
 same-length : tie.Need-same-length
 same-length c = search needs
@@ -31,11 +28,10 @@ same-length c = search needs
 returns-4 : tie.Need-returns-4
 returns-4 c =
     let put = c .before .before in
-    let f = put .before in
-    let t = f .before .before in
+    let t = put .before .before in
     let n = t .before in
     let room = n .before in
-    ends _ _ _ (case-ruled _ _ (room .before .if1 .left) (room .if2 .left) _ (n .check-case .ensures) (t .if3 .left) _ (f .facts-of .ensures)) (put .answer-facts .ensures)
+    ends _ _ _ (case-ruled _ _ (room .before .if1 .left) (room .if2 .left) _ (n .check-case .ensures) (t .if3 .left)) (put .answer-case .ensures)
 
 pub rule-case-spec : {M : Type 1} → statement M
 rule-case-spec =
@@ -45,7 +41,6 @@ rule-case-spec =
     returns-2
     check-case-requires
     returns-3
-    facts-of-requires
-    answer-facts-requires
+    answer-case-requires
     same-length
     returns-4)

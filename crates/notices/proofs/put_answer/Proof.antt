@@ -1,17 +1,13 @@
 -- The parts of the buffer lie one after the other, 32 bytes each.
-use mathlib.Core.Path.{refl, ap, _∙_}
+use mathlib.Core.Path.{refl}
 use mathlib.Core.List.{_++_}
 use denote.Ref.{now}
-use Rattle.wire.specs.Laid.{laid}
 use Rattle.wire.proofs.Laid.{laid-part}
-use Rattle.notices.specs.Words.{Buy, Sell, Figures}
-use Rattle.notices.specs.Records.{rulingRecord, noticeRecord, answerBytes}
+use Rattle.notices.specs.Words.{Buy, Sell}
+use Rattle.notices.specs.Records.{rulingRecord, noticeRecord, answerRecords}
 use borrow.Author.Needs.{needs}
 use Rattle.notices.proofs.put_answer.Statement.{statement}
 use Rattle.notices.proofs.put_answer.Tie as tie
-
-figures-of-requires : tie.Need-figures-of-requires
-figures-of-requires c κs = search needs
 
 put-ruling-requires : tie.Need-put-ruling-requires
 put-ruling-requires c κs = search needs
@@ -44,27 +40,24 @@ same-length : tie.Need-same-length
 same-length c = search needs
 
 returns : tie.Need-returns
-unfolding answerBytes rulingRecord noticeRecord
+unfolding answerRecords rulingRecord noticeRecord
 returns c = let sold = c .before .before in
     let bought = sold .before .before .before .before in
     let ruling = bought .before .before .before .before in
-    let a = ruling .before .before .before .before .args in
-    let n = ruling .before .before .figures-of in
-    let r = rulingRecord (n .result) in
-    let b = noticeRecord (n .result) Buy (a .buyer) (a .seller) in
-    let s = noticeRecord (n .result) Sell (a .seller) (a .buyer) in
+    let a = ruling .before .before .before .args in
+    let r = rulingRecord (a .n) in
+    let b = noticeRecord (a .n) Buy (a .buyer) (a .seller) in
+    let s = noticeRecord (a .n) Sell (a .seller) (a .buyer) in
     let o = now (a .out) in
     laid-part (r ++ b) s o _ (sold .put-notice2 .last .0) 64
     (laid-part r b o (ruling .put-ruling .last .0) (bought .put-notice .last .0) 32 (ruling .put-ruling .ensures) refl (bought .put-notice .ensures))
     refl
     (sold .put-notice2 .ensures)
-    ∙ ap (λ (n : Figures). laid (rulingRecord n ++ noticeRecord n Buy (a .buyer) (a .seller) ++ noticeRecord n Sell (a .seller) (a .buyer)) o) (n .ensures)
 
 pub put-answer-spec : {M : Type 1} → statement M
 put-answer-spec =
     tie.close
     (tie.spec
-    figures-of-requires
     put-ruling-requires
     sub-put-notice
     part-put-notice-start

@@ -1,6 +1,6 @@
-use mathlib.Core.Path.{sym, _∙_}
-use Rattle.cases.proofs.Laws.{passed-whole}
 use Rattle.report.proofs.Lines.{put-ruled-line, put-refused-line}
+use Rattle.cases.proofs.Laws.{passed-whole}
+use mathlib.Core.Path.{sym, _∙_}
 use borrow.Author.Needs.{needs}
 use Rattle.report.proofs.put_case.Statement.{statement}
 use Rattle.report.proofs.put_case.Tie as tie
@@ -8,14 +8,8 @@ use Rattle.report.proofs.put_case.Tie as tie
 check-case-requires : tie.Need-check-case-requires
 check-case-requires c κs = search needs
 
-facts-of-requires : tie.Need-facts-of-requires
-facts-of-requires c κs = passed-whole _ (sym (c .before .check-case .ensures) ∙ c .if1 .taken)
-
-rule-requires : tie.Need-rule-requires
-rule-requires c κs = search needs
-
-figures-of-requires : tie.Need-figures-of-requires
-figures-of-requires c κs = search needs
+judge-requires : tie.Need-judge-requires
+judge-requires c κs = let t = c .before in passed-whole _ (sym (t .before .check-case .ensures) ∙ t .if1 .taken)
 
 put-ruled-requires : tie.Need-put-ruled-requires
 put-ruled-requires c κs = search needs
@@ -26,10 +20,9 @@ same-length c = search needs
 returns : tie.Need-returns
 returns c =
     let p = c .before .before in
-    let r = p .before .before .before in
-    let f = r .before in
-    let t = f .before in
-    put-ruled-line _ _ _ _ _ (t .before .check-case .ensures) (t .if1 .taken) _ _ _ (f .facts-of .ensures) (r .rule .ensures .0) (p .before .before .figures-of .ensures) _ (p .put-ruled .ensures)
+    let j = p .before in
+    let t = j .before .before in
+    put-ruled-line _ _ _ _ _ (t .before .check-case .ensures) (t .if1 .taken) _ (j .judge .ensures) _ (p .put-ruled .ensures)
 
 put-refused-requires : tie.Need-put-refused-requires
 put-refused-requires c κs = search needs
@@ -48,9 +41,7 @@ put-case-spec =
     tie.close
     (tie.spec
     check-case-requires
-    facts-of-requires
-    rule-requires
-    figures-of-requires
+    judge-requires
     put-ruled-requires
     same-length
     returns

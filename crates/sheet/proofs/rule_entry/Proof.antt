@@ -8,11 +8,10 @@ use Rattle.sheet.proofs.rule_entry.Tie as tie
 check-case-requires : tie.Need-check-case-requires
 check-case-requires c κs = search needs
 
-facts-of-requires : tie.Need-facts-of-requires
-facts-of-requires c κs = let t = c .before in passed-whole _ (sym (t .before .check-case .ensures) ∙ t .if1 .taken)
-
-answer-facts-requires : tie.Need-answer-facts-requires
-answer-facts-requires c κs = search needs
+answer-case-requires : tie.Need-answer-case-requires
+answer-case-requires c κs =
+    let t = c .before in
+    (t .before .before .before .before .pre, passed-whole _ (sym (t .before .check-case .ensures) ∙ t .if1 .taken))
 
 same-length : tie.Need-same-length
 same-length c = search needs
@@ -20,9 +19,8 @@ same-length c = search needs
 returns : tie.Need-returns
 returns c =
     let put = c .before .before in
-    let f = put .before in
-    let t = f .before .before in
-    enter-ruled _ _ _ _ _ (t .before .check-case .ensures) (t .if1 .taken) _ (f .facts-of .ensures) (put .answer-facts .ensures)
+    let t = put .before .before in
+    enter-ruled _ _ _ _ _ (t .before .check-case .ensures) (t .if1 .taken) (put .answer-case .ensures)
 
 cast-put-refusal : tie.Need-cast-put-refusal
 cast-put-refusal c = search needs
@@ -44,8 +42,7 @@ rule-entry-spec =
     tie.close
     (tie.spec
     check-case-requires
-    facts-of-requires
-    answer-facts-requires
+    answer-case-requires
     same-length
     returns
     cast-put-refusal
