@@ -1,7 +1,6 @@
 // The desk for other programs: four functions on numbers and byte slices, in C's calling form (include/desk.h declares them). Each passes
 // its callee's promise on in the page's numbers, and asks nothing beyond what its types say.
 ghost use mathlib.Core.Path.{_≡_};
-ghost use Prim.Native.Nat.{_≤_};
 ghost use lib.ListN.{length};
 ghost use Rattle.wire.specs.Laid.{laid};
 ghost use Rattle.cases.specs.Cases.{refusalOf};

@@ -10,7 +10,7 @@ use Rattle.facts.specs.declared.Side.{Side}
 use Rattle.facts.specs.declared.Kind.{Kind}
 use Rattle.facts.specs.declared.Day.{Day}
 use Rattle.facts.specs.declared.Agreement.{Agreement}
-use Rattle.record.specs.Words.{Price, Moment, Party, Trade, Market, Request, Settlement, Facts}
+use Rattle.record.specs.Words.{Price, Moment, Party, Trade, Market, Request, Settlement}
 use Rattle.record.specs.Record.{tradeOf, marketOf, requestOf, partyAt, settlementOf, factsOf}
 
 module _ (s : List ℕ) where

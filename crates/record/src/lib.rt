@@ -16,8 +16,11 @@ use facts::Seconds;
 use facts::Settlement;
 use facts::Trade;
 
+// A member code.
+pub type Code = [u8; 4];
+
 // The four bytes of a member code.
-pub fn code_at(s: &[u8], at: usize) -> [u8; 4]
+pub fn code_at(s: &[u8], at: usize) -> Code
     requires { ⌜ at + 4 ≤ length (now s) ⌝ }
     ensures { λ r. ⌜ r ≡ elements 4 (now (s .entry)) at ⌝ }
 {

@@ -1,5 +1,5 @@
 -- The laws of a ruling, each an instance of the one walk. Our table is sound (`bands-sound`); nothing else is asked of it.
-use Prim.Native.Nat.{ℕ, _-_, _≤_}
+use Prim.Native.Nat.{ℕ, _≤_}
 use mathlib.Core.Path.{_≡_, refl}
 use mathlib.Core.Bool.{Bool, true, false}
 use mathlib.Core.Logic.{⊎-elim}

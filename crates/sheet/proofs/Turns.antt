@@ -16,7 +16,7 @@ use Rattle.wire.proofs.Tests.{both-true}
 use Rattle.wire.proofs.Rows.{Ran, row-start, row-turn}
 use Rattle.cases.specs.Cases.{readingOf}
 use Rattle.sheet.specs.Words.{Reading, SheetAnswer}
-use Rattle.sheet.specs.Sheet.{caseAt, casesIn, entryBytes, ruledOne, entryOf, ruledIn, wholeCases, sheetRefusalOf, refusedWhole, ruledWhole, sheetOf}
+use Rattle.sheet.specs.Sheet.{caseAt, casesIn, entryBytes, ruledOne, ruledIn, wholeCases, sheetRefusalOf, refusedWhole, ruledWhole, sheetOf}
 use Rattle.sheet.proofs.Entries.{entry-most, one-most}
 
 -- ---- the tests 10 and 11
