@@ -7,7 +7,8 @@ ghost use Rattle.wire.specs.Laid.{laid};
 ghost use Rattle.record.specs.Record.{factsOf};
 ghost use Rattle.answer.specs.Answer.{answerOf, caseOf};
 
-// Rules a case of 88 bytes that passed the tests, and writes the 96 bytes over the start of the buffer; every byte after them stays.
+// Rules a case of 88 bytes and writes the 96 bytes over the start of the buffer; every byte after them stays. Whoever asks has tested the case
+// and the room.
 pub fn answer_case(out: &mut [u8], case: &[u8])
     requires { ⌜ (96 ≤ length (now out)) × (length (now case) ≡ 88) ⌝ }
     ensures { λ _. ⌜ now (out .exit) ≡ laid (answerOf (factsOf (now (case .entry)))) (now (out .entry)) ⌝ }

@@ -1,5 +1,5 @@
-// A ruling in the page's numbers: what the record, the notices and the printed line have in common. Refuses nothing: every ruling has
-// its figures.
+// A ruling in the page's numbers: what the record, the notices and the printed line have in common. Nothing is refused here: every
+// ruling has its figures, and whoever has a case judged has tested its length.
 ghost use mathlib.Core.Path.{_≡_};
 ghost use lib.ListN.{length};
 ghost use Rattle.record.specs.Record.{factsOf};
