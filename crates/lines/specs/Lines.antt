@@ -27,8 +27,8 @@ outcomeWord outcome =
     pick (eqb outcome 0) (letters "NONE") (pick (eqb outcome 1) (letters "ADJUST") (pick (eqb outcome 2) (letters "NULLIFY") (letters "WAIT")))
 
 -- contracts adjusted, nullified, standing
-abbrev pub countsText : Figures → List ℕ
-countsText n = line (decimalOf (n .adjusted) ∷ decimalOf (n .nullified) ∷ decimalOf (n .standing) ∷ [])
+abbrev pub countFields : Figures → List (List ℕ)
+countFields n = decimalOf (n .adjusted) ∷ decimalOf (n .nullified) ∷ decimalOf (n .standing) ∷ []
 
 -- A ruled case: trade, the outcome's word, reason, TP, new price, contracts adjusted, nullified, standing; prices in mills, `-` for none.
 unfoldable pub ruledLine : Figures → List ℕ
@@ -39,10 +39,7 @@ ruledLine n =
     ∷ decimalOf (n .reason)
     ∷ priceText (priceOf (n .tp))
     ∷ priceText (priceOf (n .price))
-    ∷ decimalOf (n .adjusted)
-    ∷ decimalOf (n .nullified)
-    ∷ decimalOf (n .standing)
-    ∷ []
+    ∷ countFields n
     )
 
 -- A refused case: `#` joined to the index, the word REFUSED, the number.

@@ -6,7 +6,7 @@ ghost use lib.ListN.{length};
 ghost use Rattle.wire.specs.Laid.{laid};
 ghost use Rattle.facts.specs.Codes.{priceOf};
 ghost use Rattle.text.specs.Text.{laidAt, decimalOf, priceText};
-ghost use Rattle.lines.specs.Lines.{ended, header, outcomeWord, countsText, ruledLine, refusedLine, endLine, sheetLine};
+ghost use Rattle.lines.specs.Lines.{ended, header, outcomeWord, line, countFields, ruledLine, refusedLine, endLine, sheetLine};
 use figures::Figures;
 
 // ---- a field and the byte after it
@@ -42,7 +42,7 @@ fn add_outcome(out: &mut [u8], at: usize, outcome: u8) -> usize
 // The contracts adjusted, nullified and standing, which end the line.
 fn add_counts(out: &mut [u8], at: usize, n: Figures) -> usize
     requires { ⌜ at + 33 ≤ length (now out) ⌝ }
-    ensures { λ r. ⌜ (r ≡ at + length (countsText n)) × (now (out .exit) ≡ laidAt at (countsText n) (now (out .entry))) ⌝ }
+    ensures { λ r. ⌜ (r ≡ at + length (line (countFields n))) × (now (out .exit) ≡ laidAt at (line (countFields n)) (now (out .entry))) ⌝ }
 {
     let adjusted = add_number(out, at, n.adjusted, b' ');
     let nullified = add_number(out, adjusted, n.nullified, b' ');

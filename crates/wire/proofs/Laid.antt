@@ -14,11 +14,6 @@ pub laid-none : (l : List ℕ) → l ≡ laid [] l
 unfolding laid
 laid-none l = refl
 
--- writing keeps the buffer's length
-pub laid-length : (w l : List ℕ) → length w ≤ length l → length (laid w l) ≡ length l
-unfolding laid
-laid-length w l h = simp (length-append, length-drop) (omega arith)
-
 -- all of an array copied over the start of the buffer, as `bytes::copy` states it
 pub copied : (n : ℕ) (a w l : List ℕ) → n ≡ length a → a ≡ w → take n a ++ drop n l ≡ laid w l
 unfolding laid
