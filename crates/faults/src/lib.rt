@@ -1,6 +1,7 @@
 // The tests on facts behind document 01's "Numbers given back instead of a ruling", 4 to 9 in the table's order. Their
 // definitions stand in `refusals`, beside those of 1 to 3. The first that fails is told.
 ghost use mathlib.Core.Path.{_≡_};
+ghost use Rattle.wire.specs.Tests.{inRange};
 ghost use Rattle.refusals.specs.Tests.{codeByteOk, codeOk, codesOk, millsOk, priceOk, quotesPriced, pricesOk, quoteOk, countsOk, momentOk, filedOk, timesOk, limitsOk, agreementOk, faultOf};
 use facts::Agreement;
 use facts::Day;
@@ -19,12 +20,21 @@ use facts::Trade;
 
 // ---- 4: member codes
 
+fn is_digit(b: u8) -> bool
+    ensures { λ r. ⌜ r ≡ inRange 48 57 b ⌝ }
+{
+    match b {
+        b'0'..=b'9' => true,
+        _ => false,
+    }
+}
+
 fn code_byte_ok(b: u8) -> bool
     ensures { λ r. ⌜ r ≡ codeByteOk b ⌝ }
 {
     match b {
-        b'A'..=b'Z' | b'0'..=b'9' => true,
-        _ => false,
+        b'A'..=b'Z' => true,
+        _ => is_digit(b),
     }
 }
 
