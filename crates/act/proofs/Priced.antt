@@ -1,4 +1,4 @@
--- Where the price that an act sets lies (01, "Laws the counter relies on"), by any row of a sound table. An act sets TP itself or TP
+-- Where the price that an act sets lies (RULE R12.2), by any row of a sound table. An act sets TP itself or TP
 -- moved by an amount that is within the minimum of its way, and the error passed that minimum.
 use Prim.Native.Nat.{ℕ, _≤_}
 use mathlib.Core.Path.{_≡_}

@@ -1,5 +1,5 @@
--- The limits that an act tests, and whether the price that it would set violates one (01, "Then the act"; document 000, struck
--- (a)(3)(C) and (D); document 002, (d)(3)(B)).
+-- The limits that an act tests, and whether the price that it would set violates one (RULE R8.3.2, R8.3.3 and R8.4.2;
+-- document 000, struck (a)(3)(C) and (D); document 002, (d)(3)(B)).
 use mathlib.Core.Bool.{Bool, _&&_, _||_}
 use Rattle.wire.specs.Tests.{pick}
 use Rattle.facts.specs.Limits.{violates}

@@ -1,4 +1,4 @@
--- The least error that counts on each way (01, "Then the error"): the opening way goes by the obvious column.
+-- The least error that counts on each way (RULE R6.2): the opening way goes by the obvious column (RULE R6.4).
 use Rattle.act.specs.Words.{Mills, Band, Way, Obvious, Opening, Catastrophic}
 
 abbrev pub minimumOf : Way → Band → Mills

@@ -1,9 +1,11 @@
--- The page's numbers and values for an act (01, "What goes out").
+-- The page's numbers and values for an act (RULE R10.1).
 use Prim.Native.Nat.{ℕ}
 use mathlib.Core.Bool.{Bool, false}
 use lib.Dec.{eqb}
 use Rattle.wire.specs.Tests.{pick, inRange}
-use Rattle.act.specs.Words.{Mills, Price, At, None, Act, Adjust, Nullify, Leave}
+use Rattle.facts.specs.Codes.{priceNumber}
+use Rattle.act.specs.Words.{Mills, Price, At, None, Side, Band, Act, Adjust, Nullify, Leave}
+use Rattle.act.specs.Act.{obviousPrice, catastrophicPrice}
 
 -- the outcome: 0 no relief, 1 adjusted, 2 nullified
 abbrev pub actOutcome : Act → ℕ
@@ -26,6 +28,14 @@ actPrice (Leave reason) = None
 abbrev pub fits : ℕ → ℕ → Bool
 fits outcome reason =
     pick (eqb outcome 0) (inRange 4 5 reason) (pick (eqb outcome 1) (inRange 6 9 reason) (pick (eqb outcome 2) (inRange 11 12 reason) false))
+
+-- The new price in the page's number, by the reason: for 6 TP plus (buy) or minus (sell) the obvious adjustment, for 7 TP itself, for 8
+-- and 9 TP plus or minus the row's adjustment; every other reason has none, 4,294,967,295.
+abbrev pub priceFor : ℕ → Side → Mills → Band → ℕ
+priceFor reason side tp band =
+    pick (eqb reason 6) (obviousPrice side tp .0)
+    (pick (eqb reason 7) (tp .0)
+    (pick (inRange 8 9 reason) (catastrophicPrice side tp band .0) (priceNumber None)))
 
 -- what is said of a price, where there is one
 abbrev pub IfPriced : (Mills → Type 0) → Price → Type 0

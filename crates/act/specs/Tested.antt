@@ -1,5 +1,5 @@
 -- Demand 3 at the act: the price that a party's limit is tested against, and a trade with another code and limit for one party
--- (01, "Laws the counter relies on", the last paragraph).
+-- (RULE R12.5).
 use Prim.Native.Nat.{ℕ}
 use mathlib.Core.Path.{_≡_}
 use mathlib.Core.Bool.{Bool, true, false}

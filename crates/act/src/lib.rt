@@ -4,11 +4,12 @@
 // row has an act.
 ghost use mathlib.Core.Path.{_≡_};
 ghost use mathlib.Core.Bool.{true};
+ghost use Rattle.facts.specs.Codes.{priceNumber};
 ghost use Rattle.parties.specs.Parties.{bySide};
 ghost use Rattle.act.specs.Minimum.{minimumOf};
 ghost use Rattle.act.specs.Limits.{otherSide, openingTested, openingStopped, customerStopped, catastrophicStopped};
 ghost use Rattle.act.specs.Act.{obviousAct, openingAct, catastrophicAct, actOf};
-ghost use Rattle.act.specs.Numbers.{actOutcome, actReason, fits};
+ghost use Rattle.act.specs.Numbers.{actOutcome, actReason, actPrice, fits, priceFor};
 use bands::Band;
 use facts::Kind;
 use facts::Mills;
@@ -142,7 +143,8 @@ fn catastrophic_act(stopped: bool, accepted: bool, price: Mills) -> Act
 
 // The act on a trade in error: `side` is the side in error, `accepted` whether a Customer's acceptance came in
 // time, `band` the row of the table for TP. TP goes to the near price on the obvious way and to the far one on
-// the catastrophic; on the opening way it is the price.
+// the catastrophic; on the opening way it is the price. In the page's numbers: the outcome fits the reason, and the
+// new price is the one that the reason sets.
 pub fn find_act(
     way: Way,
     side: Side,
@@ -152,7 +154,7 @@ pub fn find_act(
     tp: Mills,
     band: Band,
 ) -> Act
-    ensures { λ r. ⌜ (r ≡ actOf way side buyer seller accepted tp band) × (fits (actOutcome r) (actReason r) ≡ true) ⌝ }
+    ensures { λ r. ⌜ (r ≡ actOf way side buyer seller accepted tp band) × (fits (actOutcome r) (actReason r) ≡ true) × (priceNumber (actPrice r) ≡ priceFor (actReason r) side tp band) ⌝ }
 {
     let buyer_kind = buyer.kind;
     let seller_kind = seller.kind;

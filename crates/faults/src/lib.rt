@@ -1,7 +1,6 @@
-// The tests on facts behind document 01's "Numbers given back instead of a ruling", 4 to 9 in the table's order. Their
+// The tests on facts behind "Numbers given back instead of a ruling" (RULE R3.4 to R3.9), in the table's order. Their
 // definitions stand in `refusals`, beside those of 1 to 3. The first that fails is told.
 ghost use mathlib.Core.Path.{_≡_};
-ghost use Rattle.wire.specs.Tests.{inRange};
 ghost use Rattle.refusals.specs.Tests.{codeByteOk, codeOk, codesOk, millsOk, priceOk, quotesPriced, pricesOk, quoteOk, countsOk, momentOk, filedOk, timesOk, limitsOk, agreementOk, faultOf};
 use facts::Agreement;
 use facts::Day;
@@ -20,37 +19,30 @@ use facts::Trade;
 
 // ---- 4: member codes
 
-fn is_digit(b: u8) -> bool
-    ensures { λ r. ⌜ r ≡ inRange 48 57 b ⌝ }
-{
-    match b {
-        b'0'..=b'9' => true,
-        _ => false,
-    }
-}
-
 fn code_byte_ok(b: u8) -> bool
     ensures { λ r. ⌜ r ≡ codeByteOk b ⌝ }
 {
     match b {
-        b'A'..=b'Z' => true,
-        _ => is_digit(b),
+        b'A'..=b'Z' | b'0'..=b'9' => true,
+        _ => false,
     }
 }
 
+// A byte that is not allowed ends it. The last byte is asked second: the answer is the same in any order, and in this one
+// the compiler leaves the rest of the case unread until both codes have passed.
 fn code_ok(c: [u8; 4]) -> bool
     ensures { λ r. ⌜ r ≡ codeOk c ⌝ }
 {
     if !code_byte_ok(c[0]) {
         return false;
     }
+    if !code_byte_ok(c[3]) {
+        return false;
+    }
     if !code_byte_ok(c[1]) {
         return false;
     }
-    if !code_byte_ok(c[2]) {
-        return false;
-    }
-    code_byte_ok(c[3])
+    code_byte_ok(c[2])
 }
 
 fn codes_ok(buyer: Party, seller: Party) -> bool
@@ -103,11 +95,13 @@ fn prices_ok(f: Facts) -> bool
     let lowest = seller.limit;
     let settlement = f.settlement;
     let agreed = settlement.agreed;
-    mills_ok(execution)
-        & quotes_priced(market)
-        & price_ok(highest)
-        & price_ok(lowest)
-        & price_ok(agreed)
+    if !mills_ok(execution) {
+        return false;
+    }
+    if !quotes_priced(market) {
+        return false;
+    }
+    price_ok(highest) & price_ok(lowest) & price_ok(agreed)
 }
 
 // ---- 6: contracts and sizes
@@ -125,7 +119,10 @@ fn quote_ok(q: Quote) -> bool
 fn counts_ok(t: Trade, m: Market) -> bool
     ensures { λ r. ⌜ r ≡ countsOk t m ⌝ }
 {
-    (1 <= t.contracts.0) & (t.contracts.0 <= 1000000) & quote_ok(m.bid) & quote_ok(m.offer)
+    if !((1 <= t.contracts.0) & (t.contracts.0 <= 1000000)) {
+        return false;
+    }
+    quote_ok(m.bid) & quote_ok(m.offer)
 }
 
 // ---- 7: times

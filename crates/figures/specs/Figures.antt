@@ -1,4 +1,4 @@
--- A ruling in the page's numbers (01, "What goes out").
+-- A ruling in the page's numbers (RULE R10.1).
 use Rattle.facts.specs.Codes.{priceNumber}
 use Rattle.ruling.specs.Reasons.{outcomeNumber, newPrice, countsOf}
 use Rattle.figures.specs.Words.{Ruling, Figures}

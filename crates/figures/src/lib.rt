@@ -4,12 +4,11 @@ ghost use mathlib.Core.Path.{_≡_};
 ghost use lib.ListN.{length};
 ghost use Rattle.record.specs.Record.{factsOf};
 ghost use Rattle.ruling.specs.Ruling.{rulingOf};
-ghost use Rattle.ruling.specs.Reasons.{outcomeNumber, newPrice, countsOf};
+ghost use Rattle.ruling.specs.Reasons.{newPrice, countsOf};
 ghost use Rattle.figures.specs.Figures.{figuresOf};
 use facts::Price;
 use ruling::Counts;
 use ruling::Outcome;
-use ruling::Ruling;
 
 // 4,294,967,295 for a price of none; the outcome 0 no relief, 1 adjusted, 2 nullified, 3 waiting.
 pub struct Figures {
@@ -21,17 +20,6 @@ pub struct Figures {
     pub adjusted: u32,
     pub nullified: u32,
     pub standing: u32,
-}
-
-fn outcome_number(o: Outcome) -> u8
-    ensures { λ r. ⌜ r ≡ outcomeNumber o ⌝ }
-{
-    match o {
-        Outcome::NoRelief(_) => 0,
-        Outcome::Adjusted(_) => 1,
-        Outcome::Nullified(_) => 2,
-        Outcome::Waiting(_) => 3,
-    }
 }
 
 fn new_price(o: Outcome) -> Price
@@ -59,15 +47,19 @@ fn counts_of(o: Outcome) -> Counts
     }
 }
 
-pub fn figures_of(r: Ruling) -> Figures
-    ensures { λ n. ⌜ n ≡ figuresOf r ⌝ }
+// The ruling on a case of 88 bytes, in the page's numbers. The outcome is decided by the reason, which `rule` promises to be the same.
+// Reading, ruling and figures in one call, so that neither the facts nor the ruling need pass through memory.
+pub fn judge(case: &[u8]) -> Figures
+    requires { ⌜ length (now case) ≡ 88 ⌝ }
+    ensures { λ n. ⌜ n ≡ figuresOf (rulingOf (factsOf (now (case .entry)))) ⌝ }
 {
+    let r = ruling::rule(record::facts_of(case));
     let outcome = r.outcome;
     let tp = r.tp;
     let counts = counts_of(outcome);
     Figures {
         trade: r.trade,
-        outcome: outcome_number(outcome),
+        outcome: ruling::outcome_of(r.reason),
         reason: r.reason,
         tp: facts::price_number(tp),
         price: facts::price_number(new_price(outcome)),
@@ -75,12 +67,4 @@ pub fn figures_of(r: Ruling) -> Figures
         nullified: counts.nullified.0,
         standing: counts.standing.0,
     }
-}
-
-// The ruling on a case of 88 bytes, in the page's numbers. Reading and ruling in one call, so that the facts need not pass through memory.
-pub fn judge(case: &[u8]) -> Figures
-    requires { ⌜ length (now case) ≡ 88 ⌝ }
-    ensures { λ n. ⌜ n ≡ figuresOf (rulingOf (factsOf (now (case .entry)))) ⌝ }
-{
-    figures_of(ruling::rule(record::facts_of(case)))
 }

@@ -1,5 +1,5 @@
--- The parties by their kinds, and which of two is the one in error (01, "What the desk rules on": the request is
--- taken from the party in error; byte 44 gives its side).
+-- The parties by their kinds, and which of two is the one in error (RULE R1.1: the request is taken from the
+-- party in error; R2.6.44 gives its side).
 use mathlib.Core.Bool.{Bool, true, false, _||_}
 use Rattle.parties.specs.Words.{Side, Buy, Sell, Kind, Customer, MarketMaker, Other}
 

@@ -1,5 +1,6 @@
 // The parties by their kinds, and which of two is the one in error. Refuses nothing: every kind has an answer.
 ghost use mathlib.Core.Path.{_≡_};
+ghost use Rattle.facts.specs.Codes.{kindNumber};
 ghost use Rattle.parties.specs.Parties.{isCustomer, isMaker, bySide, anyCustomer};
 use facts::Kind;
 use facts::Side;
@@ -24,9 +25,9 @@ pub fn is_maker(k: Kind) -> bool
     }
 }
 
-// The kind of the party in error.
+// The kind of the party in error; its number is byte 64 or 65, by the side.
 pub fn kind_in_error(side: Side, buyer: Kind, seller: Kind) -> Kind
-    ensures { λ r. ⌜ r ≡ bySide side buyer seller ⌝ }
+    ensures { λ r. ⌜ (r ≡ bySide side buyer seller) × (kindNumber r ≡ bySide side (kindNumber buyer) (kindNumber seller)) ⌝ }
 {
     match side {
         Side::Buy => buyer,
@@ -34,9 +35,9 @@ pub fn kind_in_error(side: Side, buyer: Kind, seller: Kind) -> Kind
     }
 }
 
-// The kind of the other party.
+// The kind of the other party, and its number likewise.
 pub fn other_kind(side: Side, buyer: Kind, seller: Kind) -> Kind
-    ensures { λ r. ⌜ r ≡ bySide side seller buyer ⌝ }
+    ensures { λ r. ⌜ (r ≡ bySide side seller buyer) × (kindNumber r ≡ bySide side (kindNumber seller) (kindNumber buyer)) ⌝ }
 {
     match side {
         Side::Buy => seller,

@@ -63,7 +63,7 @@ agreed-on OnPrice None b p e = cc
 agreed-on ToNullify x true p e = cc
 agreed-on ToNullify x false p e = cc
 
-heeded-price : (f : Facts) (way : Way) (p : Mills) → heededAt f way ≡ Repriced p → f .settlement .agreed ≡ At p
+pub heeded-price : (f : Facts) (way : Way) (p : Mills) → heededAt f way ≡ Repriced p → f .settlement .agreed ≡ At p
 unfolding heededOf
 heeded-price f way p e = by-test (inTime (f .settlement .made) customer) e where
   customer : Bool

@@ -32,7 +32,3 @@ unfolding reasonOutcome inRange
 reasons-agree f =
     each-ruling f Agrees (λ r tp h. unrelieved r h) refl (λ r tp h. undone r h)
     (λ way s r p g. ⊎-elim (λ c. ap reasonOutcome (sym (c .0))) (λ c. let k = range-ends 6 9 r (c .0) in repriced r (range-in 6 10 r (k .0) (omega arith))) (g .cause))
-
--- the promise of `rule` from its equation
-pub ruled : (f : Facts) (r : Ruling) → r ≡ rulingOf f → (r ≡ rulingOf f) × Agrees r
-ruled f r e = (e, rw e (reasons-agree f))

@@ -7,16 +7,16 @@ use mathlib.Core.Logic.{_⊎_, inl, inr}
 use Rattle.wire.specs.Tests.{pick, inRange}
 use Rattle.bands.specs.Table.{bandOf}
 use Rattle.bands.specs.Amounts.{inError}
-use Rattle.parties.specs.Parties.{bySide, anyCustomer}
-use Rattle.way.specs.Way.{wayOf}
+use Rattle.parties.specs.Parties.{anyCustomer}
 use Rattle.theory.specs.Theory.{theoryOf}
 use Rattle.agreement.specs.Agreed.{heededOf, acceptedInTime}
 use Rattle.act.specs.Minimum.{minimumOf}
 use Rattle.act.specs.Act.{actOf}
 use Rattle.act.specs.Numbers.{actOutcome, actReason, fits}
-use Rattle.act.proofs.Reasons.{act-reasons}
+use Rattle.act.proofs.Reasons.{act-told}
 use Rattle.ruling.specs.Words.{Mills, Price, At, None, Facts, Way, Obvious, Opening, Catastrophic, Open, By, Closed, Source, Theory, Found, Missing, Heeded, Ignored, Repriced, Undone, Act, Adjust, Nullify, Leave, Ruling}
-use Rattle.ruling.specs.Ruling.{noRelief, waiting, nullified, adjusted, carriedOut, settled, ruledAt, ruledFrom, ruledOn, ruledBy, ruledIf, rulingOf}
+use Rattle.ruling.specs.Ruling.{noRelief, waiting, nullify, adjust, carriedOut, settled, ruledAt, ruledFrom, ruledOn, ruledBy, ruledIf, rulingOf}
+use Rattle.ruling.specs.Numbers.{wayIn}
 
 pub by-test : {A : Type 0} (P : A → Type 0) (b : Bool) (x y : A) → (b ≡ true → P x) → (b ≡ false → P y) → P (pick b x y)
 by-test P true x y t e = t refl
@@ -34,8 +34,9 @@ InError f way s = inError (f .request .side) (f .trade .price) (s .price) (minim
 abbrev pub heededAt : Facts → Way → Heeded
 heededAt f way = heededOf (f .settlement) way (anyCustomer (f .buyer .kind) (f .seller .kind))
 
--- ---- the grounds of an adjustment: TP was found, the trade is in error, and the price is the agreed one or the act's
+-- ---- the grounds of an adjustment: the way is open, TP was found, the trade is in error, and the price is the agreed one or the act's
 pub record Grounds (f : Facts) (way : Way) (s : Source) (reason : ℕ) (price : Mills) : Type 0 where
+  pub opened : wayIn f ≡ By way
   pub found : theoryOf (f .request .side) (f .market) ≡ Found s
   pub error : InError f way s
   pub cause : ((reason ≡ 10) × (heededAt f way ≡ Repriced price)) ⊎ ((inRange 6 9 reason ≡ true) × (actAt f way s ≡ Adjust (record { reason = reason; price = price })))
@@ -43,39 +44,39 @@ pub record Grounds (f : Facts) (way : Way) (s : Source) (reason : ℕ) (price : 
 module _ (f : Facts) (P : Ruling → Type 0)
     (none : (r : ℕ) (tp : Price) → inRange 1 5 r ≡ true → P (noRelief (f .trade) r tp))
     (wait : P (waiting (f .trade)))
-    (undone : (r : ℕ) (tp : Mills) → inRange 11 13 r ≡ true → P (nullified (f .trade) r tp))
-    (priced : (way : Way) (s : Source) (r : ℕ) (p : Mills) → Grounds f way s r p → P (adjusted (f .trade) way s r p)) where
-  module _ (way : Way) (s : Source) (found : theoryOf (f .request .side) (f .market) ≡ Found s) (error : InError f way s) where
+    (undone : (r : ℕ) (tp : Mills) → inRange 11 13 r ≡ true → P (nullify (f .trade) r tp))
+    (priced : (way : Way) (s : Source) (r : ℕ) (p : Mills) → Grounds f way s r p → P (adjust (f .trade) way s r p)) where
+  module _ (way : Way) (opened : wayIn f ≡ By way) (s : Source) (found : theoryOf (f .request .side) (f .market) ≡ Found s) (error : InError f way s) where
     on-act : (a : Act) → actAt f way s ≡ a → fits (actOutcome a) (actReason a) ≡ true → P (carriedOut (f .trade) way s a)
-    on-act (Adjust c) e h = priced way s (c .reason) (c .price) (record { found = found; error = error; cause = inr (h, e) })
+    on-act (Adjust c) e h = priced way s (c .reason) (c .price) (record { opened = opened; found = found; error = error; cause = inr (h, e) })
     on-act (Nullify r) e h = undone r (s .price) (range-wider 11 12 11 13 r tt tt h)
     on-act (Leave r) e h = none r (At (s .price)) (range-wider 4 5 1 5 r tt tt h)
 
     on-agreement : (h : Heeded) → heededAt f way ≡ h → P (settled f way s h)
     unfolding inRange
-    on-agreement (Repriced p) e = priced way s 10 p (record { found = found; error = error; cause = inl (refl, e) })
+    on-agreement (Repriced p) e = priced way s 10 p (record { opened = opened; found = found; error = error; cause = inl (refl, e) })
     on-agreement Undone e = undone 13 (s .price) refl
-    on-agreement Ignored e = on-act (actAt f way s) refl (act-reasons way (f .request .side) (f .buyer) (f .seller) (acceptedInTime (f .settlement .accepted)) (s .price) (bandOf (s .price)))
+    on-agreement Ignored e = on-act (actAt f way s) refl (act-told way (f .request .side) (f .buyer) (f .seller) (acceptedInTime (f .settlement .accepted)) (s .price) (bandOf (s .price)) .0)
 
-  on-way : (way : Way) → P (ruledOn f way)
+  on-way : (way : Way) → wayIn f ≡ By way → P (ruledOn f way)
   unfolding ruledOn ruledAt inRange
-  on-way way = from (theoryOf (f .request .side) (f .market)) refl where
+  on-way way opened = from (theoryOf (f .request .side) (f .market)) refl where
     from : (t : Theory) → theoryOf (f .request .side) (f .market) ≡ t → P (ruledFrom f way t)
     from (Found s) e =
         by-test P (inError (f .request .side) (f .trade .price) (s .price) (minimumOf way (bandOf (s .price)))) (settled f way s (heededAt f way)) (noRelief (f .trade) 1 (At (s .price)))
-        (λ h. on-agreement way s e h (heededAt f way) refl)
+        (λ h. on-agreement way opened s e h (heededAt f way) refl)
         (λ h. none 1 (At (s .price)) refl)
     from Missing e = wait
 
-  by-way : (way : Way) → P (ruledBy f way)
+  by-way : (way : Way) → wayIn f ≡ By way → P (ruledBy f way)
   unfolding ruledBy inRange
-  by-way Obvious = on-way Obvious
-  by-way Opening = on-way Opening
-  by-way Catastrophic = by-test P (f .request .decided) (noRelief (f .trade) 3 None) (ruledOn f Catastrophic) (λ h. none 3 None refl) (λ h. on-way Catastrophic)
+  by-way Obvious opened = on-way Obvious opened
+  by-way Opening opened = on-way Opening opened
+  by-way Catastrophic opened = by-test P (f .request .decided) (noRelief (f .trade) 3 None) (ruledOn f Catastrophic) (λ h. none 3 None refl) (λ h. on-way Catastrophic opened)
 
   pub each-ruling : P (rulingOf f)
   unfolding rulingOf inRange
-  each-ruling = if-open (wayOf (f .trade .executed) (f .request) (bySide (f .request .side) (f .buyer .kind) (f .seller .kind))) where
-    if-open : (o : Open) → P (ruledIf f o)
-    if-open (By way) = by-way way
-    if-open Closed = none 2 None refl
+  each-ruling = if-open (wayIn f) refl where
+    if-open : (o : Open) → wayIn f ≡ o → P (ruledIf f o)
+    if-open (By way) e = by-way way e
+    if-open Closed e = none 2 None refl

@@ -1,4 +1,4 @@
--- How many contracts a ruling covers (01, "Contracts").
+-- How many contracts a ruling covers (RULE R9; document 000, struck (a)(3)(C) and (D)).
 use Prim.Native.Nat.{_-_}
 use lib.Dec.{ltb}
 use Rattle.wire.specs.Tests.{pick}

@@ -1,4 +1,4 @@
--- What the counter relies on in a ruling (01, "Laws the counter relies on"), as predicates of it.
+-- What the counter relies on in a ruling (RULE R12.2, R12.3), as predicates of it.
 use Prim.Native.Nat.{ℕ, _+_, _≤_}
 use mathlib.Core.Path.{_≡_}
 use mathlib.Core.Bool.{true}

@@ -3,4 +3,6 @@ pub mod Counts
 pub mod Ruling
 pub mod Reasons
 pub mod Laws
+pub mod Numbers
 pub mod Tested
+pub mod Accepted

@@ -1,4 +1,4 @@
--- The page's numbers and values for a ruling (01, "What goes out"), and the outcome that each reason has.
+-- The page's numbers and values for a ruling (RULE R10.1), and the outcome that each reason has.
 use Prim.Native.Nat.{ℕ}
 use lib.Dec.{eqb}
 use Rattle.wire.specs.Tests.{pick, inRange}

@@ -1,4 +1,4 @@
--- The ruling on a case (01, "The steps of a ruling"): each step of the page under its own name, in the page's order.
+-- The ruling on a case (RULE R1.8): each step of the page under its own name, in the page's order.
 use Prim.Native.Nat.{ℕ}
 use Rattle.wire.specs.Tests.{pick}
 use Rattle.bands.specs.Table.{bandOf}
@@ -17,15 +17,15 @@ use Rattle.ruling.specs.Counts.{covered, allStand, allNullified, someAdj
 abbrev pub noRelief : Trade → ℕ → Price → Ruling
 noRelief t reason tp = record { trade = t .number; outcome = NoRelief (allStand (t .contracts)); reason = reason; tp = tp }
 
--- 14: no price to go by
+-- 14: no price to go by (RULE R5.3)
 abbrev pub waiting : Trade → Ruling
 waiting t = record { trade = t .number; outcome = Waiting (allStand (t .contracts)); reason = 14; tp = None }
 
-abbrev pub nullified : Trade → ℕ → Mills → Ruling
-nullified t reason tp = record { trade = t .number; outcome = Nullified (allNullified (t .contracts)); reason = reason; tp = At tp }
+abbrev pub nullify : Trade → ℕ → Mills → Ruling
+nullify t reason tp = record { trade = t .number; outcome = Nullified (allNullified (t .contracts)); reason = reason; tp = At tp }
 
-abbrev pub adjusted : Trade → Way → Source → ℕ → Mills → Ruling
-adjusted t way s reason price =
+abbrev pub adjust : Trade → Way → Source → ℕ → Mills → Ruling
+adjust t way s reason price =
     record {
       trade = t .number;
       outcome = Adjusted (record { price = price; counts = someAdjusted (t .contracts) (covered way (s .cover) (t .contracts)) });
@@ -33,28 +33,28 @@ adjusted t way s reason price =
       tp = At (s .price);
     }
 
--- ---- then the act: an act becomes its ruling
+-- ---- then the act: an act becomes its ruling (RULE R8)
 abbrev pub carriedOut : Trade → Way → Source → Act → Ruling
-carriedOut t way s (Adjust c) = adjusted t way s (c .reason) (c .price)
-carriedOut t way s (Nullify reason) = nullified t reason (s .price)
+carriedOut t way s (Adjust c) = adjust t way s (c .reason) (c .price)
+carriedOut t way s (Nullify reason) = nullify t reason (s .price)
 carriedOut t way s (Leave reason) = noRelief t reason (At (s .price))
 
 -- ---- then agreement: on a price, adjusted to it (10), limits not tested; to nullify, nullified (13); any other is ignored, and the act follows
 abbrev pub settled : Facts → Way → Source → Heeded → Ruling
-settled f way s (Repriced price) = adjusted (f .trade) way s 10 price
-settled f way s Undone = nullified (f .trade) 13 (s .price)
+settled f way s (Repriced price) = adjust (f .trade) way s 10 price
+settled f way s Undone = nullify (f .trade) 13 (s .price)
 settled f way s Ignored =
     carriedOut (f .trade) way s
     (actOf way (f .request .side) (f .buyer) (f .seller) (acceptedInTime (f .settlement .accepted)) (s .price) (bandOf (s .price)))
 
--- ---- then the error: by at least the way's minimum in the row for TP, else no relief (1)
+-- ---- then the error: by at least the way's minimum in the row for TP, else no relief (1) (RULE R6)
 unfoldable pub ruledAt : Facts → Way → Source → Ruling
 ruledAt f way s =
     pick (inError (f .request .side) (f .trade .price) (s .price) (minimumOf way (bandOf (s .price))))
     (settled f way s (heededOf (f .settlement) way (anyCustomer (f .buyer .kind) (f .seller .kind))))
     (noRelief (f .trade) 1 (At (s .price)))
 
--- ---- then the theoretical price: where there is none the case waits (14)
+-- ---- then the theoretical price: where there is none the case waits (14) (RULE R5)
 abbrev pub ruledFrom : Facts → Way → Theory → Ruling
 ruledFrom f way (Found s) = ruledAt f way s
 ruledFrom f way Missing = waiting (f .trade)
@@ -63,6 +63,7 @@ unfoldable pub ruledOn : Facts → Way → Ruling
 ruledOn f way = ruledFrom f way (theoryOf (f .request .side) (f .market))
 
 -- ---- first the way: on the catastrophic way a panel that has already decided ends it (3); where none is open, no relief (2)
+-- (RULE R4.4, R4.5)
 unfoldable pub ruledBy : Facts → Way → Ruling
 ruledBy f Obvious = ruledOn f Obvious
 ruledBy f Opening = ruledOn f Opening

@@ -1,5 +1,5 @@
 -- Demand 3 at the ruling: the price that a party's limit is tested against, and a case with another code and limit for one party
--- (01, "Laws the counter relies on", the last paragraph: the tested limits count only when that act is reached).
+-- (RULE R12.5.3: the tested limits count only when that act is reached).
 use Prim.Native.Nat.{ℕ}
 use mathlib.Core.List.{List}
 use Rattle.wire.specs.Tests.{pick}

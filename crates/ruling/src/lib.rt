@@ -1,10 +1,11 @@
-// The ruling on a case: the steps of document 01 joined, from facts to outcome, reason, price and counts.
+// The ruling on a case: the steps of the page joined (RULE R1.8), from facts to outcome, reason, price and counts.
 // Refuses nothing: facts that were not accepted have a ruling too, and nobody asks for it.
-// Contracts are compared and subtracted here and nowhere else.
+// Contracts are subtracted here and nowhere else; besides, only the tests (`faults`) compare them, with their bounds.
 ghost use mathlib.Core.Path.{_≡_};
-ghost use Rattle.ruling.specs.Reasons.{reasonOutcome, outcomeNumber};
+ghost use Rattle.ruling.specs.Reasons.{reasonOutcome};
 ghost use Rattle.ruling.specs.Counts.{coveredBy, covered, restOf};
-ghost use Rattle.ruling.specs.Ruling.{noRelief, waiting, nullified, adjusted, carriedOut, settled, ruledAt, ruledOn, ruledBy, rulingOf};
+ghost use Rattle.ruling.specs.Ruling.{noRelief, waiting, nullify, adjust, carriedOut, settled, ruledAt, ruledOn, ruledBy, rulingOf};
+ghost use Rattle.ruling.specs.Numbers.{InNumbers};
 use act::Act;
 use agreement::Heeded;
 use facts::Contracts;
@@ -129,7 +130,7 @@ fn wait(trade: Trade) -> Ruling
 }
 
 fn nullify(trade: Trade, reason: u8, tp: Mills) -> Ruling
-    ensures { λ r. ⌜ r ≡ nullified trade reason tp ⌝ }
+    ensures { λ r. ⌜ r ≡ nullify trade reason tp ⌝ }
 {
     let contracts = trade.contracts;
     Ruling {
@@ -145,7 +146,7 @@ fn nullify(trade: Trade, reason: u8, tp: Mills) -> Ruling
 }
 
 fn adjust(trade: Trade, way: Way, source: Source, reason: u8, price: Mills) -> Ruling
-    ensures { λ r. ⌜ r ≡ adjusted trade way source reason price ⌝ }
+    ensures { λ r. ⌜ r ≡ adjust trade way source reason price ⌝ }
 {
     let contracts = trade.contracts;
     let cover = source.cover;
@@ -254,9 +255,9 @@ fn rule_by(f: Facts, way: Way) -> Ruling
     }
 }
 
-// The ruling on these facts: the way first.
+// The ruling on these facts: the way first. In the page's numbers, outcome, price and counts are those of its reason.
 pub fn rule(f: Facts) -> Ruling
-    ensures { λ r. ⌜ (r ≡ rulingOf f) × (outcomeNumber (r .outcome) ≡ reasonOutcome (r .reason)) ⌝ }
+    ensures { λ r. ⌜ (r ≡ rulingOf f) × InNumbers f r ⌝ }
 {
     let trade = f.trade;
     let executed = trade.executed;

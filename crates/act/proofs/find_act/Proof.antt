@@ -5,7 +5,7 @@ use Rattle.parties.specs.Parties.{isMaker, bySide, anyCustomer}
 use Rattle.act.specs.Words.{Mills, Side, Kind, Party, Band, Way, Obvious, Opening, Catastrophic, Act}
 use Rattle.act.specs.Limits.{openingStopped, catastrophicStopped}
 use Rattle.act.specs.Act.{obviousAct, openingAct, catastrophicAct, catastrophicPrice, actOf}
-use Rattle.act.proofs.Reasons.{with-reason}
+use Rattle.act.proofs.Reasons.{with-numbers}
 use borrow.Author.Needs.{needs}
 use Rattle.act.proofs.find_act.Statement.{statement}
 use Rattle.act.proofs.find_act.Tie as tie
@@ -86,7 +86,7 @@ catastrophic-act-requires c κs = search needs
 returns : tie.Need-returns
 returns c =
     let a = c .before .before .before .before .before .before .before .before .args in
-    with-reason (a .way) (a .side) (a .buyer) (a .seller) (a .accepted) (a .tp) (a .band) _
+    with-numbers (a .way) (a .side) (a .buyer) (a .seller) (a .accepted) (a .tp) (a .band) _
     (on-obvious (a .way) (a .side) (a .buyer) (a .seller) (a .accepted) (a .tp) (a .band)
     (c .before .before .enum-told .given .1) (c .before .before .before .before .before .before .obvious-adjustment .ensures) (c .before .before .before .before .before .moved .ensures)
     (c .before .any-customer .ensures) (c .obvious-act .ensures))
@@ -94,15 +94,15 @@ returns c =
 returns-2 : tie.Need-returns-2
 returns-2 c =
     let a = c .before .before .before .before .before .before .before .before .before .before .args in
-    with-reason (a .way) (a .side) (a .buyer) (a .seller) (a .accepted) (a .tp) (a .band) _
+    with-numbers (a .way) (a .side) (a .buyer) (a .seller) (a .accepted) (a .tp) (a .band) _
     (on-opening (a .way) (a .side) (a .buyer) (a .seller) (a .accepted) (a .tp) (a .band)
-    (c .before .before .before .before .enum-told2 .given .1) (c .before .before .before .other-kind .ensures) (c .before .before .is-maker .ensures)
+    (c .before .before .before .before .enum-told2 .given .1) (c .before .before .before .other-kind .ensures .0) (c .before .before .is-maker .ensures)
     (c .before .opening-stopped .ensures) (c .opening-act .ensures))
 
 returns-3 : tie.Need-returns-3
 returns-3 c =
     let a = c .before .before .before .before .before .before .before .before .args in
-    with-reason (a .way) (a .side) (a .buyer) (a .seller) (a .accepted) (a .tp) (a .band) _
+    with-numbers (a .way) (a .side) (a .buyer) (a .seller) (a .accepted) (a .tp) (a .band) _
     (on-catastrophic (a .way) (a .side) (a .buyer) (a .seller) (a .accepted) (a .tp) (a .band)
     (c .before .before .enum-told3 .given .1) (c .before .before .before .before .moved2 .ensures)
     (c .before .catastrophic-stopped .ensures) (c .catastrophic-act .ensures))

@@ -28,12 +28,12 @@ is-maker-requires c κs = search needs
 returns : tie.Need-returns
 returns c =
     let a = c .before .before .before .before .args in
-    against-a-maker (a .side) (a .buyer) (a .seller) (c .before .before .other-kind .ensures) (c .before .is-maker .ensures) (c .if1 .taken)
+    against-a-maker (a .side) (a .buyer) (a .seller) (c .before .before .other-kind .ensures .0) (c .before .is-maker .ensures) (c .if1 .taken)
 
 returns-2 : tie.Need-returns-2
 returns-2 c =
     let a = c .before .before .before .before .args in
-    against-another (a .side) (a .buyer) (a .seller) (c .before .before .other-kind .ensures) (c .before .is-maker .ensures)
+    against-another (a .side) (a .buyer) (a .seller) (c .before .before .other-kind .ensures .0) (c .before .is-maker .ensures)
     (c .before .before .before .other-side .ensures) (c .if1 .left)
 
 pub opening-tested-spec : {M : Type 1} → statement M

@@ -1,26 +1,28 @@
-use Rattle.wire.specs.Tests.{inRange}
-use mathlib.Core.Logic.{⊎-elim}
-use mathlib.Core.Bool.{false}
-use mathlib.Core.Path.{_≡_}
+-- The compiler asks in turn for a byte below '0' (48), up to '9' (57), below 'A' (65) and up to 'Z' (90).
+use Rattle.wire.proofs.Tests.{range-in, range-low, range-high, lt-lit, le-lit}
 use Rattle.refusals.specs.Tests.{codeByteOk}
-use Rattle.wire.proofs.Tests.{range-in, range-low, range-high}
-use borrow.Author.Needs.{needs}
 use Rattle.faults.proofs.code_byte_ok.Statement.{statement}
 use Rattle.faults.proofs.code_byte_ok.Tie as tie
 
-is-digit-requires : tie.Need-is-digit-requires
-is-digit-requires c κs = search needs
-
 returns : tie.Need-returns
 unfolding codeByteOk
-returns c = simp (range-in 65 90 _ (c .before .if1 .left) (c .if2 .taken))
+returns c = simp (range-low 65 90 _ (lt-lit _ 58 65 (c .if2 .taken) tt), range-in 48 57 _ (c .before .if1 .left) (c .if2 .taken))
 
 returns-2 : tie.Need-returns-2
 unfolding codeByteOk
-returns-2 c =
-    let b = c .before .before .args .b in
-    let no : inRange 65 90 b ≡ false = ⊎-elim (λ t. range-low 65 90 b (t .taken)) (λ e. range-high 65 90 b (e .1 .left)) (c .before .if1 .came) in
-    simp no (c .is-digit .ensures)
+returns-2 c = simp (range-in 65 90 _ (c .before .if3 .left) (c .if4 .taken))
+
+returns-3 : tie.Need-returns-3
+unfolding codeByteOk
+returns-3 c = simp (range-low 65 90 _ (lt-lit _ 48 65 (c .if1 .taken) tt), range-low 48 57 _ (c .if1 .taken))
+
+returns-4 : tie.Need-returns-4
+unfolding codeByteOk
+returns-4 c = simp (range-low 65 90 _ (c .if3 .taken), range-high 48 57 _ (c .before .if2 .left))
+
+returns-5 : tie.Need-returns-5
+unfolding codeByteOk
+returns-5 c = simp (range-high 65 90 _ (c .if4 .left), range-high 48 57 _ (le-lit _ 91 58 (c .if4 .left) tt))
 
 pub code-byte-ok-spec : {M : Type 1} → statement M
-code-byte-ok-spec = tie.close (tie.spec is-digit-requires returns returns-2)
+code-byte-ok-spec = tie.close (tie.spec returns returns-2 returns-3 returns-4 returns-5)

@@ -3,7 +3,7 @@ use mathlib.Core.Path.{_≡_}
 use Rattle.facts.specs.Codes.{contracts}
 use Rattle.ruling.specs.Words.{Contracts, Mills, At, Trade, Way, Source, Ruling, Adjusted}
 use Rattle.ruling.specs.Counts.{covered, restOf, counts}
-use Rattle.ruling.specs.Ruling.{adjusted}
+use Rattle.ruling.specs.Ruling.{adjust}
 use borrow.Author.Needs.{needs}
 use Rattle.ruling.proofs.adjust.Statement.{statement}
 use Rattle.ruling.proofs.adjust.Tie as tie
@@ -20,7 +20,7 @@ covering t s reason price taken rest =
 built : (t : Trade) (way : Way) (s : Source) (reason : ℕ) (price : Mills) {taken rest : Contracts}
     → taken ≡ covered way (s .cover) (t .contracts)
     → rest ≡ restOf (t .contracts) taken
-    → covering t s reason price taken rest ≡ adjusted t way s reason price
+    → covering t s reason price taken rest ≡ adjust t way s reason price
 built t way s reason price taken rest = cc
 
 cover-on-requires : tie.Need-cover-on-requires

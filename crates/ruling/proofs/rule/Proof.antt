@@ -1,6 +1,6 @@
 use mathlib.Core.Path.{sym, _∙_}
 use Rattle.ruling.specs.Ruling.{rulingOf}
-use Rattle.ruling.proofs.Reasons.{ruled}
+use Rattle.ruling.proofs.Numbers.{ruled}
 use borrow.Author.Needs.{needs}
 use Rattle.ruling.proofs.rule.Statement.{statement}
 use Rattle.ruling.proofs.rule.Tie as tie
@@ -26,14 +26,14 @@ no-relief-requires c κs = search needs
 returns : tie.Need-returns
 unfolding rulingOf
 returns c = let f = c .before .before .before .before .before .before .before .before .before .before .before .args .f in
-    let kind = c .before .before .before .before .before .kind-in-error .ensures in
+    let kind = c .before .before .before .before .before .kind-in-error .ensures .0 in
     let way = simp kind at (sym (c .before .before .before .before .find-way .ensures) ∙ c .before .before .way .given .1) in
     ruled f _ (simp way (c .rule-by .ensures))
 
 returns-2 : tie.Need-returns-2
 unfolding rulingOf
 returns-2 c = let f = c .before .before .before .before .before .before .before .before .before .before .args .f in
-    let kind = c .before .before .before .before .kind-in-error .ensures in
+    let kind = c .before .before .before .before .kind-in-error .ensures .0 in
     let way = simp kind at (sym (c .before .before .before .find-way .ensures) ∙ c .before .enum-told .given .1) in
     ruled f _ (simp way (c .no-relief .ensures))
 
