@@ -25,15 +25,15 @@ use Rattle.ruling.proofs.Blind.{same-ruling}
 use Rattle.notices.specs.Records.{rulingRecord, shows, shownCode, noticeRecord, answerRecords, answerBytes}
 use Rattle.answer.specs.Words.{Price, Side, Buy, Sell, Facts, Outcome, NoRelief, Adjusted, Nullified, Waiting, Ruling}
 use Rattle.answer.specs.Answer.{answerOf, caseOf}
-use Rattle.answer.specs.Blind.{partyPlace, codeIn, limitIn, Outside, AlikeBut, Untold, Blind}
+use Rattle.answer.specs.Blind.{partyPlace, codeIn, limitIn, Outside, AlikeBut, UntoldBytes, Blind}
 use Rattle.answer.proofs.Cases.{accepted-ruled}
 
 -- ---- the case: bytes that are the same say the same
-from-48 : (who : Side) → 48 ≤ partyPlace who
+pub from-48 : (who : Side) → 48 ≤ partyPlace who
 from-48 Buy = lit≤ tt
 from-48 Sell = lit≤ tt
 
-to-64 : (who : Side) → partyPlace who + 8 ≤ 64
+pub to-64 : (who : Side) → partyPlace who + 8 ≤ 64
 to-64 Buy = lit≤ tt
 to-64 Sell = lit≤ tt
 
@@ -125,7 +125,7 @@ answer-altered f who code limit untold =
 
 -- Of one party's code and limit the answer tells the other party the code where the trade is repriced or undone, and nothing else
 -- but on which side of the limit the tested price lies.
-pub blind : (who : Side) (s t : List ℕ) → AlikeBut who s t → Untold who s t → Blind who s t (answerOf (factsOf s)) (answerOf (factsOf t))
+pub blind : (who : Side) (s t : List ℕ) → AlikeBut who s t → UntoldBytes who s t → Blind who s t (answerOf (factsOf s)) (answerOf (factsOf t))
 unfolding answerOf factsOf partyAt
 blind Buy s t same untold =
     subst (Blind Buy s t (answerOf (factsOf s)))
@@ -138,7 +138,7 @@ blind Sell s t same untold =
 
 -- The same of two accepted cases and the bytes that are written for them.
 pub blind-cases : (who : Side) (s t : List ℕ) (room room' : ℕ) → readingOf s .refusal ≡ 0 → readingOf t .refusal ≡ 0 → 96 ≤ room → 96 ≤ room'
-    → AlikeBut who s t → Untold who s t → Blind who s t (caseOf s room .1) (caseOf t room' .1)
+    → AlikeBut who s t → UntoldBytes who s t → Blind who s t (caseOf s room .1) (caseOf t room' .1)
 blind-cases who s t room room' e e' fits fits' same untold =
     rw (accepted-ruled s room e fits, accepted-ruled t room' e' fits') (blind who s t same untold)
 

@@ -1,4 +1,4 @@
--- What ruling one case answers (01, "Numbers given back instead of a ruling", "What goes out").
+-- What ruling one case answers (RULE R3.0.4, R10.1, R10.2).
 use Prim.Native.Nat.{ℕ}
 use mathlib.Core.Bool.{Bool}
 use mathlib.Core.List.{List, [], _∷_, _++_}

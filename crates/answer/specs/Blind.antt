@@ -1,4 +1,4 @@
--- Demand 3 in bytes: two cases that are alike but for one party's member code and limit, and what is written for them.
+-- Demand 3 in bytes (RULE R12.5, R12.6, R13.0.3): two cases that are alike but for one party's member code and limit, and what is written for them.
 -- `elements w s i` are the w bytes of s from place i on.
 use Prim.Native.Nat.{ℕ, _+_, _≤_, _<_}
 use mathlib.Core.Path.{_≡_}
@@ -35,8 +35,8 @@ abbrev pub AlikeBut : Side → List ℕ → List ℕ → Type 0
 AlikeBut who s t = (i : ℕ) → Outside who i → getD s i 0 ≡ getD t i 0
 
 -- the price that the party's limit is tested against, if it is, is within both limits or outside both
-abbrev pub Untold : Side → List ℕ → List ℕ → Type 0
-Untold who s t = Alike who (testedIn (factsOf s) who) (limitIn who s) (limitIn who t)
+abbrev pub UntoldBytes : Side → List ℕ → List ℕ → Type 0
+UntoldBytes who s t = Alike who (testedIn (factsOf s) who) (limitIn who s) (limitIn who t)
 
 -- ---- the answers: the notice to the other party begins at 64 (the seller's) or 32 (the buyer's)
 abbrev pub otherNotice : Side → ℕ

@@ -1,12 +1,12 @@
 -- Bytes that pass the tests 1 to 3 are the bytes of the facts that they say.
-use Prim.Native.Nat.{ℕ, _+_, _<_}
+use Prim.Native.Nat.{ℕ, _+_}
 use mathlib.Core.Path.{_≡_, refl, sym, ap, _∙_}
 use mathlib.Core.Bool.{true}
 use mathlib.Core.List.{List, _++_}
 use lib.ListN.{getD}
 use lib.Dec.{eqb}
 use borrow.Author.Tests.{eqb-true}
-use Rattle.wire.specs.Numbers.{bytes, elements, numberAt}
+use Rattle.wire.specs.Numbers.{AreBytes, bytes, elements, numberAt}
 use Rattle.wire.specs.Tests.{inRange}
 use Rattle.wire.proofs.Numbers.{elements-all, bytes-number}
 use Rattle.wire.proofs.Tests.{both-true}
@@ -14,7 +14,7 @@ use Rattle.facts.specs.Codes.{priceOf, priceNumber, momentOf, momentNumber}
 use Rattle.facts.proofs.Codes.{price-number, moment-number, side-number, kind-number, day-number, agreement-number, flag-number}
 use Rattle.record.specs.Record.{tradeOf, marketOf, requestOf, partyAt, settlementOf, factsOf, headBytes, tradeBytes, marketBytes, flagBytes, partyBytes, listBytes, tailBytes, recordBytes}
 use Rattle.refusals.specs.Tests.{headOk, zerosOk, listsOk}
-use Rattle.cases.proofs.Laws.{Formed}
+use Rattle.cases.specs.Cases.{Formed}
 
 app : (a b c d : List ℕ) → a ≡ b → c ≡ d → a ++ c ≡ b ++ d
 app a b c d p q = cc
@@ -43,7 +43,7 @@ listed s h =
     record { side = t7 .0; opening = t7 .1; expiry = t6 .1; panel = t5 .1; buyer = t4 .1; seller = t3 .1; day = t2 .1; agreement = t1 .1 }
 
 -- ---- stretch by stretch
-module _ (s : List ℕ) (small : (i : ℕ) → getD s i 0 < 256) where
+module _ (s : List ℕ) (small : AreBytes s) where
   number-at : (i : ℕ) → bytes 4 (numberAt 4 s i) ≡ elements 4 s i
   number-at i = bytes-number s small 4 i
 

@@ -11,7 +11,7 @@ use Rattle.wire.proofs.Tests.{both-true, none-fails, first-append}
 use Rattle.record.specs.Record.{factsOf, recordBytes}
 use Rattle.refusals.specs.Tests.{lengthOk, headOk, zerosOk, listsOk, formTests, factTests, formFaultOf, faultOf}
 use Rattle.cases.specs.Words.{Facts}
-use Rattle.cases.specs.Cases.{refusalOf, accepted, refused, readingOf, writeRefusalOf, writingOf}
+use Rattle.cases.specs.Cases.{refusalOf, Formed, accepted, refused, readingOf, writeRefusalOf, writingOf}
 
 -- ---- reading
 module _ (s : List ℕ) where
@@ -44,13 +44,7 @@ module _ (s : List ℕ) where
   facts-decide n f formed says e = sym (in-order ∙ simp (eq-eqb (formFaultOf s) 0 formed) (ap faultOf (sym says) ∙ sym e))
 
   -- ---- what passes the tests 1 to 3
-  pub record Formed : Type 0 where
-    pub whole : length s ≡ 88
-    pub head : headOk s ≡ true
-    pub zeros : zerosOk s ≡ true
-    pub lists : listsOk s ≡ true
-
-  pub formed : formFaultOf s ≡ 0 → Formed
+  pub formed : formFaultOf s ≡ 0 → Formed s
   unfolding formFaultOf
   formed e =
       let t1 = none-fails (lengthOk s) 1 _ tt e in
@@ -60,7 +54,7 @@ module _ (s : List ℕ) where
       record { whole = eqb-true (length s) 88 (t1 .0); head = t2 .0; zeros = z .0; lists = z .1 }
 
   -- bytes that pass them so do, whatever the facts
-  pub well-formed : Formed → formFaultOf s ≡ 0
+  pub well-formed : Formed s → formFaultOf s ≡ 0
   unfolding formFaultOf
   well-formed f = simp (eq-eqb (length s) 88 (f .whole), f .head, f .zeros, f .lists)
 

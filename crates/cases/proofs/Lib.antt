@@ -1,4 +1,5 @@
 pub mod Laws
+pub mod Held
 pub mod Again
 pub mod Back
 pub mod RoundTrips

@@ -1,17 +1,17 @@
 -- What is proved of reading and writing a case, over the definitions that the promises of `read_case` and `write_case` cite.
-use Prim.Native.Nat.{ℕ, _≤_, _<_}
+use Prim.Native.Nat.{ℕ, _≤_}
 use mathlib.Core.Path.{_≡_, refl, sym, ap, _∙_}
 use mathlib.Core.List.{List}
-use lib.ListN.{length, getD, take, drop}
+use lib.ListN.{length, take, drop}
 use lib.Seq.{take-at}
-use Rattle.wire.specs.Numbers.{numberAt}
+use Rattle.wire.specs.Numbers.{AreBytes, numberAt}
 use Rattle.wire.specs.Laid.{laid}
 use Rattle.facts.proofs.Codes.{side-listed, kind-listed, day-listed, agreement-listed, flag-listed}
 use Rattle.record.specs.Record.{factsOf, recordBytes}
 use Rattle.refusals.specs.Tests.{headOk, zerosOk, listsOk, faultOf}
 use Rattle.cases.specs.Words.{Facts, Reading}
-use Rattle.cases.specs.Cases.{accepted, readingOf, writingOf, Held}
-use Rattle.cases.proofs.Laws.{Formed, formed, well-formed, accepted-form, accepted-reading, accepted-facts, facts-decide, accepted-at, writes, writes-facts}
+use Rattle.cases.specs.Cases.{Formed, accepted, readingOf, writingOf, Held}
+use Rattle.cases.proofs.Laws.{formed, well-formed, accepted-form, accepted-reading, accepted-facts, facts-decide, accepted-at, writes, writes-facts}
 use Rattle.cases.proofs.Again.{sound, facts-again}
 use Rattle.cases.proofs.Back.{bytes-back}
 
@@ -39,7 +39,7 @@ written-read f o h e =
     ∙ ap accepted again
 
 -- Bytes that are accepted, read and written again into any buffer with room, are the same bytes.
-pub read-written : (s : List ℕ) (room : ℕ) → ((i : ℕ) → getD s i 0 < 256) → readingOf s .refusal ≡ 0 → 88 ≤ room
+pub read-written : (s : List ℕ) (room : ℕ) → AreBytes s → readingOf s .refusal ≡ 0 → 88 ≤ room
     → writingOf (readingOf s .facts) room ≡ (0, s)
 read-written s room small e h =
     ap (λ (f : Facts). writingOf f room) (ap (λ (r : Reading). r .facts) (accepted-reading s e))

@@ -1,17 +1,25 @@
--- What reading and writing a case answer (01, "Numbers given back instead of a ruling").
+-- What reading and writing a case answer (RULE R3.0.2, R3.0.3).
 use Prim.Native.Nat.{ℕ, _<_}
 use mathlib.Core.Path.{_≡_}
+use mathlib.Core.Bool.{true}
 use mathlib.Core.List.{List, [], _∷_, _++_}
 use lib.ListN.{length, replicate}
 use lib.Dec.{leb, eqb}
 use Rattle.wire.specs.Tests.{pick, firstFailed}
 use Rattle.record.specs.Record.{factsOf, recordBytes}
-use Rattle.refusals.specs.Tests.{formTests, factTests}
+use Rattle.refusals.specs.Tests.{headOk, zerosOk, listsOk, formTests, factTests}
 use Rattle.cases.specs.Words.{Facts, Reading}
 
 -- ---- reading a case tests 1, then 2 to 9
 unfoldable pub refusalOf : List ℕ → ℕ
 refusalOf s = firstFailed (formTests s ++ factTests (factsOf s))
+
+-- what passes the tests 1 to 3
+pub record Formed (s : List ℕ) : Type 0 where
+  pub whole : length s ≡ 88
+  pub head : headOk s ≡ true
+  pub zeros : zerosOk s ≡ true
+  pub lists : listsOk s ≡ true
 
 abbrev pub accepted : Facts → Reading
 accepted f = record { refusal = 0; facts = f }

@@ -4,7 +4,8 @@
 ghost use mathlib.Core.Path.{_≡_};
 ghost use lib.ListN.{length};
 ghost use Rattle.wire.specs.Laid.{laid};
-ghost use Rattle.cases.specs.Cases.{refusalOf, refused, readingOf, writingOf};
+ghost use Rattle.wire.specs.Numbers.{AreBytes};
+ghost use Rattle.cases.specs.Cases.{refusalOf, refused, readingOf, writingOf, Held};
 use facts::Facts;
 
 // The facts where refusal is 0; otherwise the number of the first test that failed, beside fixed facts that nobody uses.
@@ -35,9 +36,10 @@ pub fn check_case(s: &[u8]) -> u8
     faults::fault(record::facts_of(s))
 }
 
-// Reads a case: its facts, where no test fails.
+// Reads a case: its facts, where no test fails. The promise also hands on what the type gives, that each element is a byte, so that
+// what is said of every call need not ask for it.
 pub fn read_case(s: &[u8]) -> Reading
-    ensures { λ r. ⌜ r ≡ readingOf (now (s .entry)) ⌝ }
+    ensures { λ r. ⌜ (r ≡ readingOf (now (s .entry))) × AreBytes (now (s .entry)) ⌝ }
 {
     let n = check_case(s);
     if n != 0 {
@@ -49,9 +51,10 @@ pub fn read_case(s: &[u8]) -> Reading
     }
 }
 
-// Writes a case: tests 11, then 3 to 9. Answers the number, 0 where the 88 bytes are written.
+// Writes a case: tests 11, then 3 to 9. Answers the number, 0 where the 88 bytes are written. The promise also hands on what the type
+// of the facts gives (`Held`).
 pub fn write_case(f: Facts, out: &mut [u8]) -> u8
-    ensures { λ r. ⌜ (r ≡ writingOf f (length (now (out .entry))) .0) × (now (out .exit) ≡ laid (writingOf f (length (now (out .entry))) .1) (now (out .entry))) ⌝ }
+    ensures { λ r. ⌜ (r ≡ writingOf f (length (now (out .entry))) .0) × (now (out .exit) ≡ laid (writingOf f (length (now (out .entry))) .1) (now (out .entry))) × Held f ⌝ }
 {
     if out.len() < 88 {
         return 11;

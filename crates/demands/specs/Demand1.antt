@@ -1,11 +1,11 @@
--- Demand 1: every byte string brought as a case or a sheet gets a ruling or a numbered refusal, and no caller tests anything first. A
+-- Demand 1 (RULE R13.0.1): every byte string brought as a case or a sheet gets a ruling or a numbered refusal, and no caller tests anything first. A
 -- refused call returns its number and writes nothing; a bad case in a good sheet gets one refusal record.
 -- First what the definitions answer, then, as "so every call", what the promises of the functions allow. `crate.function.Reads.Post` is a
 -- promise as Rattle reads it from the contract in the source: of the arguments, the answer, and the arguments afterwards; `Asked` is what
 -- the function asks of its caller. `Ends` says in which ways a call ends.
 use Prim.Native.Nat.{ℕ, _≤_, _<_}
 use mathlib.Core.Path.{_≡_}
-use mathlib.Core.Logic.{_⊎_}
+use mathlib.Core.Bool.{true, false}
 use mathlib.Core.List.{List, [], _∷_, _++_}
 use lib.ListN.{length}
 use lib.Dec.{leb}
@@ -22,9 +22,10 @@ use Rattle.ruling.proofs as ruling
 use Rattle.answer.specs.Answer.{caseTests, caseRefusalOf, caseOf}
 use Rattle.answer.proofs as answer
 use Rattle.sheet.specs.declared.SheetAnswer.{SheetAnswer}
-use Rattle.sheet.specs.Sheet.{casesIn, sheetOf}
+use Rattle.sheet.specs.Sheet.{casesIn, wholeCases, sheetOf}
 use Rattle.sheet.proofs as sheet
-use Rattle.lines.specs.Lines.{sheetLine}
+use Rattle.text.specs.Text.{letters}
+use Rattle.lines.specs.Lines.{header, sheetLine}
 use Rattle.report.specs.Report.{ruledText, textOf}
 use Rattle.report.proofs as report
 use Rattle.desk.specs.declared.DeskSheet.{DeskSheet}
@@ -62,7 +63,7 @@ module _ (κ : Lfts 1) (s s' : RefT (List ℕ)) where
   check-case-ends r p = rw p (read-told (now s))
 
   pub read-case-ends : (r : Reading) → cases.read_case.Reads.Post κ (s, tt) r (s', tt) → Told readNumbers (r .refusal)
-  read-case-ends r p = rw (p, cases.Laws.read-number (now s)) (read-told (now s))
+  read-case-ends r p = rw (p .0, cases.Laws.read-number (now s)) (read-told (now s))
 
   pub desk-check-case-ends : (r : ℕ) → desk.desk_check_case.Reads.Post κ (s, tt) r (s', tt) → Told readNumbers r
   desk-check-case-ends r p = rw p (read-told (now s))
@@ -77,7 +78,7 @@ write-answered f room = why.answered 88 room writeNumbers _ (recordBytes f) (why
 -- So every call of `write_case`.
 pub write-case-ends : (κ : Lfts 1) (f f' : Facts) (out out' : RefT (List ℕ)) (r : ℕ)
     → cases.write_case.Reads.Post κ (f, (out, tt)) r (f', (out', tt)) → Ended 88 writeNumbers r (now out) (now out')
-write-case-ends κ f f' out out' r p = why.ended 88 writeNumbers _ r _ _ (write-answered f (length (now out))) p
+write-case-ends κ f f' out out' r p = why.ended 88 writeNumbers _ r _ _ (write-answered f (length (now out))) (p .0, p .1)
 
 -- ---- a case ruled
 
@@ -120,9 +121,17 @@ entries = why.entered
 
 -- ---- the printer
 
--- Any bytes are printed: the header, a line for each case and END; or the one line SHEET REFUSED 10.
-pub text-answered : (s : List ℕ) → (textOf s ≡ ruledText s (casesIn s)) ⊎ (textOf s ≡ sheetLine 10)
+-- Any bytes are printed: whole cases, 600 at most, as the header, a line for each case and END; any other bytes as the one line SHEET REFUSED 10
+-- (RULE R11.8).
+pub text-answered : (s : List ℕ) → (wholeCases s ≡ true → textOf s ≡ ruledText s (casesIn s)) × (wholeCases s ≡ false → textOf s ≡ sheetLine 10)
 text-answered = why.text-answered
+
+-- The header comes first in every report (RULE R11.7), and over an empty sheet too.
+pub header-first : (s : List ℕ) → wholeCases s ≡ true → (rest : List ℕ) × (textOf s ≡ header ++ rest)
+header-first = why.header-first
+
+pub empty-report : textOf [] ≡ letters "TRADE OUTCOME REASON TP NEW ADJ NUL OLD" ++ (10 ∷ []) ++ letters "END 0 0" ++ (10 ∷ [])
+empty-report = why.empty-report
 
 -- No text is longer than the printer's buffer of 65,536 bytes.
 pub text-fits : (s : List ℕ) → length (textOf s) ≤ 65536

@@ -1,5 +1,5 @@
--- Demand 2: ruling, reason, price and counts are exactly document 01's. Whatever the promise of an entry point allows is what 01's
--- definitions make of the same input; and a case, written and read or read and written, comes back (`RoundTrips`).
+-- Demand 2 (RULE R13.0.2): ruling, reason, price and counts are exactly the page's. Whatever the promise of an entry point allows is what
+-- the page's definitions make of the same input; and a case, written and read or read and written, comes back (`RoundTrips`).
 -- `crate.function.Reads.Post` is the promise as Rattle reads it from the contract in the source: of the arguments, the answer, and the
 -- arguments afterwards.
 use Prim.Native.Nat.{ℕ, _≤_}
@@ -41,7 +41,7 @@ rule-says f f' r p = p .0
 -- They are written as the record's table says, or refused by the table of numbers.
 pub write-case-says : (κ : Lfts 1) (f f' : Facts) (out out' : RefT (List ℕ)) (r : ℕ) → cases.write_case.Reads.Post κ (f, (out, tt)) r (f', (out', tt))
     → let a = writingOf f (length (now out)) in Said (a .0) (a .1) r (now out) (now out')
-write-case-says κ f f' out out' r p = p
+write-case-says κ f f' out out' r p = (p .0, p .1)
 
 -- ---- the bytes of a case
 module _ (κ : Lfts 1) (s s' : RefT (List ℕ)) where
@@ -54,7 +54,7 @@ module _ (κ : Lfts 1) (s s' : RefT (List ℕ)) where
 
   -- They are read as the record's table says.
   pub read-case-says : (r : Reading) → cases.read_case.Reads.Post κ (s, tt) r (s', tt) → r ≡ readingOf (now s)
-  read-case-says r p = p
+  read-case-says r p = p .0
 
 module _ (κs : Lfts 2) (s s' out out' : RefT (List ℕ)) where
   -- They are answered by the ruling record and the two notices, or refused.

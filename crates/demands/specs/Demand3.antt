@@ -1,10 +1,23 @@
--- Demand 3 (01, "Laws the counter relies on"): nothing of a member's code or limit reaches the other party, but for the code where the trade
--- is repriced or undone, and on which side of the limit the tested price (`testedIn`) lies. On rulings, on the bytes of a case's answer, and on sheets.
-use Prim.Native.Nat.{ℕ, _≤_}
-use mathlib.Core.Path.{_≡_, refl, ap}
+-- Demand 3 (RULE R12.5, R12.6, R13.0.3): among accepted cases, nothing of a member's code or limit reaches the other party, but for the code
+-- where the trade is repriced or undone, and on which side of the limit the tested price (`testedIn`) lies. On rulings, on the bytes of a
+-- case's answer, on sheets, and of every two calls. (That a case is accepted tells that the execution is within both limits: test 8.)
+use Prim.Native.Nat.{ℕ, _≤_, _<_}
+use mathlib.Core.Path.{_≡_, refl, sym, ap, subst, _∙_}
+use mathlib.Core.Logic.{⊎-elim}
 use mathlib.Core.List.{List, [], _∷_}
+use native.Mathlib.Omega.{arith}
+use lib.ListN.{length, getD, set, take}
+use lib.Seq.{getD-set-other}
+use lib.Dec.{lit≤, lit<}
+use contract.Lifetimes.{Lfts}
+use denote.Ref.{RefT, now}
 use borrow.Author.Tests.{eqb-false}
-use Rattle.facts.specs.Codes.{priceNumber}
+use Rattle.wire.specs.Laid.{laid}
+use Rattle.wire.specs.Numbers.{stored, numberAt}
+use Rattle.wire.specs.Tests.{inRange}
+use Rattle.facts.specs.Codes.{priceNumber, priceOf, momentOf, sideOf, kindOf, dayOf, agreementOf, flagOf}
+use Rattle.record.specs.Record.{tradeOf, marketOf, requestOf, partyAt, settlementOf, factsOf}
+use Rattle.refusals.specs.Tests.{headOk, zerosOk, listsOk, codesOk, codeOk, codeByteOk, pricesOk, quotesPriced, countsOk, timesOk, limitsOk}
 use Rattle.bands.specs.Table.{bandOf}
 use Rattle.bands.specs.Amounts.{inError, movedBy}
 use Rattle.parties.specs.Parties.{bySide}
@@ -18,15 +31,22 @@ use Rattle.ruling.specs.Words.{Price, Never, Side, Buy, Facts}
 use Rattle.ruling.specs.Ruling.{ruledAt, ruledOn, ruledBy, rulingOf}
 use Rattle.ruling.specs.Tested.{testedIn, alteredFacts}
 use Rattle.ruling.proofs.Blind as blind
-use Rattle.record.specs.Record.{factsOf}
-use Rattle.cases.specs.Cases.{readingOf}
-use Rattle.answer.specs.Answer.{answerOf, caseOf}
-use Rattle.answer.specs.Blind as Bytes
-use Rattle.answer.specs.Blind.{codeIn, AlikeBut, Blind}
-use Rattle.answer.proofs.Blind as answer
-use Rattle.sheet.specs.Sheet.{caseAt}
+use Rattle.cases.specs.Cases.{refusalOf, readingOf}
+use Rattle.answer.specs.Answer.{caseOf}
+use Rattle.answer.specs.Blind.{codeIn, AlikeBut, UntoldBytes, Blind}
+use Rattle.answer.proofs as answer
+use Rattle.answer.proofs.Blind as bytes
+use Rattle.sheet.specs.declared.SheetAnswer.{SheetAnswer}
+use Rattle.sheet.specs.Sheet.{caseAt, sheetOf}
 use Rattle.sheet.specs.Blind.{AlikeButOne, OnlyCase}
-use Rattle.sheet.proofs.Blind as sheet
+use Rattle.sheet.proofs as sheet
+use Rattle.sheet.proofs.Blind as sheets
+use Rattle.desk.specs.declared.DeskSheet.{DeskSheet}
+use Rattle.desk.specs.Desk.{deskSheet}
+use Rattle.desk.proofs as desk
+use Rattle.specimen.specs.Good.{goodCase}
+use Rattle.demands.specs.Why as why
+use Rattle.demands.specs.Demand2.{Said}
 use Rattle.demands.specs.Edges.{at, toCustomer}
 
 -- the price that is tested, if any, is within both limits or outside both
@@ -60,18 +80,101 @@ told-pair = (refl, refl)
 -- limits apart: the 32 bytes of the ruling are the same; the other party's notice is the same but for its bytes 24 to 27; and these are the code
 -- exactly when the outcome is 1 or 2, and zeros otherwise (`Blind`).
 pub blind-cases : (who : Side) (s t : List ℕ) (room room' : ℕ) → readingOf s .refusal ≡ 0 → readingOf t .refusal ≡ 0 → 96 ≤ room → 96 ≤ room'
-    → AlikeBut who s t → Bytes.Untold who s t → Blind who s t (caseOf s room .1) (caseOf t room' .1)
-blind-cases = answer.blind-cases
+    → AlikeBut who s t → UntoldBytes who s t → Blind who s t (caseOf s room .1) (caseOf t room' .1)
+blind-cases = bytes.blind-cases
 
 -- A code is never four zeros, so whether it shows can be told from the notice.
 pub code-seen : (who : Side) (s : List ℕ) → readingOf s .refusal ≡ 0 → codeIn who s ≡ 0 ∷ 0 ∷ 0 ∷ 0 ∷ [] → ⊥
-code-seen = answer.code-seen
+code-seen = bytes.code-seen
 
 -- ---- on sheets
 
--- Where two such cases stand at place j in sheets otherwise equal: the bytes before the case's answer and after it are the same, the counts are
--- the same, and of the case's own 96 bytes only those of its two notices can differ, as said above.
-pub blind-sheets : (who : Side) (s t : List ℕ) (n j : ℕ) → AlikeButOne s t n j → AlikeBut who (caseAt s j) (caseAt t j)
-    → Bytes.Untold who (caseAt s j) (caseAt t j)
-    → OnlyCase s t n j × Blind who (caseAt s j) (caseAt t j) (answerOf (factsOf (caseAt s j))) (answerOf (factsOf (caseAt t j)))
-blind-sheets who s t n j a same untold = (sheet.only-case s t n j a, answer.blind who (caseAt s j) (caseAt t j) same untold)
+-- a is written for s and b for t, under the refusal n: where they are ruled, the same but for what `Blind` says of case j; where they are refused
+-- whole, nothing
+pub record BlindWritten (who : Side) (s t : List ℕ) (j n : ℕ) (a b : List ℕ) : Type 0 where
+  pub ruled : n ≡ 0 → OnlyCase who s t j a b
+  pub refused : (n ≡ 0 → ⊥) → (a ≡ []) × (b ≡ [])
+
+-- For two sheets of one length with the same byte at every place but one party's eight in case j, case j accepted in both and the tested price
+-- not telling the limits apart (`AlikeButOne`), whatever the room: the whole answer (refusal, bytes written, cases ruled and refused) is the
+-- same, and the bytes written are the same before and after the 96 of case j, which are as `Blind` says.
+pub blind-sheets : (who : Side) (s t : List ℕ) (j : ℕ) → AlikeButOne who s t j → (room : ℕ)
+    → (sheetOf t room .0 ≡ sheetOf s room .0) × BlindWritten who s t j (sheetOf s room .0 .refusal) (sheetOf s room .1) (sheetOf t room .1)
+blind-sheets who s t j a room =
+    let same = sheets.blind-answer who s t j a room in (
+      same,
+      record {
+        ruled = sheets.only-case who s t j a room;
+        refused = λ d. (why.none-written s room d, why.none-written t room (λ z. d (ap (λ (x : SheetAnswer). x .refusal) (sym same) ∙ z)));
+      },
+    )
+
+-- The premise holds of two sheets that differ: the good record, and the same with another code of its buyer.
+abbrev otherBuyer : List ℕ
+otherBuyer = stored goodCase 48 (67 ∷ 68 ∷ 51 ∷ 52 ∷ [])
+
+pub alike-sheets : AlikeButOne Buy goodCase otherBuyer 0
+unfolding caseAt readingOf refusalOf headOk zerosOk listsOk codesOk codeOk codeByteOk pricesOk quotesPriced countsOk timesOk limitsOk inRange numberAt factsOf tradeOf marketOf requestOf partyAt settlementOf priceOf momentOf sideOf kindOf dayOf agreementOf flagOf testedIn bandOf inError movedBy wayOf obviousOpen openingOpen catastrophicOpen theoryOf heededOf inTime testedAt
+alike-sheets =
+    record {
+      long = refl;
+      within = lit< tt;
+      same = λ i o. sym (kept i (λ k h h' e. ⊎-elim (λ l. omega arith) (λ l. omega arith) o));
+      first = refl;
+      second = refl;
+      untold = tt;
+    } where
+      kept : (i : ℕ) → ((k : ℕ) → 48 ≤ k → k < 56 → i ≡ k → ⊥) → getD otherBuyer i 0 ≡ getD goodCase i 0
+      kept i d =
+          getD-set-other (set (set (set goodCase 48 67) 49 68) 50 51) 51 i 52 0 (d 51 (lit≤ tt) (lit< tt))
+          ∙ getD-set-other (set (set goodCase 48 67) 49 68) 50 i 51 0 (d 50 (lit≤ tt) (lit< tt))
+          ∙ getD-set-other (set goodCase 48 67) 49 i 68 0 (d 49 (lit≤ tt) (lit< tt))
+          ∙ getD-set-other goodCase 48 i 67 0 (d 48 (lit≤ tt) (lit< tt))
+
+pub sheets-differ : goodCase ≡ otherBuyer → ⊥
+sheets-differ e = eqb-false 65 67 refl (ap (λ (l : List ℕ). getD l 48 0) e)
+
+-- ---- so every call: what is said above of the definitions, of the promises as Rattle reads them from the contracts
+
+-- Two calls of `rule_case`, or of `desk_rule_case`, that rule such cases, in the 96 bytes that they leave.
+module _ (who : Side) (κs κs' : Lfts 2) (s s' t t' out out' o o' : RefT (List ℕ)) (n m : ℕ) (same : AlikeBut who (now s) (now t))
+    (untold : UntoldBytes who (now s) (now t)) where
+  abbrev BlindCalls : Type 0
+  BlindCalls = n ≡ 0 → m ≡ 0 → Blind who (now s) (now t) (take 96 (now out')) (take 96 (now o'))
+
+  blind-said : Said (caseOf (now s) (length (now out)) .0) (caseOf (now s) (length (now out)) .1) n (now out) (now out')
+      → Said (caseOf (now t) (length (now o)) .0) (caseOf (now t) (length (now o)) .1) m (now o) (now o') → BlindCalls
+  blind-said p q e e' = rw (why.ruled-bytes (now s) (now out) (now out') n p e, why.ruled-bytes (now t) (now o) (now o') m q e') (bytes.blind who (now s) (now t) same untold)
+
+  pub rule-case-blind : answer.rule_case.Reads.Post κs (s, (out, tt)) n (s', (out', tt)) → answer.rule_case.Reads.Post κs' (t, (o, tt)) m (t', (o', tt)) → BlindCalls
+  rule-case-blind = blind-said
+
+  pub desk-rule-case-blind : desk.desk_rule_case.Reads.Post κs (s, (out, tt)) n (s', (out', tt)) → desk.desk_rule_case.Reads.Post κs' (t, (o, tt)) m (t', (o', tt)) → BlindCalls
+  desk-rule-case-blind = blind-said
+
+-- Two calls of `rule_sheet`, or of `desk_rule_sheet`, on such sheets with as much room: the same answer, and buffers in which a and b were
+-- written over the start, as said above.
+module _ (who : Side) (κs κs' : Lfts 2) (s s' t t' out out' o o' : RefT (List ℕ)) (j : ℕ) (alike : AlikeButOne who (now s) (now t) j)
+    (room : length (now out) ≡ length (now o)) where
+  abbrev BlindBuffers : ℕ → Type 0
+  BlindBuffers n =
+      (a : List ℕ) × (b : List ℕ) × (now out' ≡ laid a (now out)) × (now o' ≡ laid b (now o)) × BlindWritten who (now s) (now t) j n a b
+
+  -- whatever of the answer a caller is told
+  sheets-said : {A : Type 0} (view : SheetAnswer → A) (r q : A)
+      → Said (view (sheetOf (now s) (length (now out)) .0)) (sheetOf (now s) (length (now out)) .1) r (now out) (now out')
+      → Said (view (sheetOf (now t) (length (now o)) .0)) (sheetOf (now t) (length (now o)) .1) q (now o) (now o')
+      → (q ≡ r) × BlindBuffers (sheetOf (now s) (length (now out)) .0 .refusal)
+  sheets-said {A} view r q p u =
+      let l = length (now out) in
+      let d = blind-sheets who (now s) (now t) j alike l in
+      let k = subst (λ (n : ℕ). Said (view (sheetOf (now t) n .0)) (sheetOf (now t) n .1) q (now o) (now o')) (sym room) u in
+      (k .0 ∙ ap view (d .0) ∙ sym (p .0), (sheetOf (now s) l .1, sheetOf (now t) l .1, p .1, k .1, d .1))
+
+  pub rule-sheet-blind : (r q : SheetAnswer) → sheet.rule_sheet.Reads.Post κs (s, (out, tt)) r (s', (out', tt))
+      → sheet.rule_sheet.Reads.Post κs' (t, (o, tt)) q (t', (o', tt)) → (q ≡ r) × BlindBuffers (r .refusal)
+  rule-sheet-blind r q p u = let d = sheets-said (λ a. a) r q p u in (d .0, rw (p .0) (d .1))
+
+  pub desk-rule-sheet-blind : (r q : DeskSheet) → desk.desk_rule_sheet.Reads.Post κs (s, (out, tt)) r (s', (out', tt))
+      → desk.desk_rule_sheet.Reads.Post κs' (t, (o, tt)) q (t', (o', tt)) → (q ≡ r) × BlindBuffers (r .refusal)
+  desk-rule-sheet-blind r q p u = let d = sheets-said deskSheet r q p u in (d .0, rw (p .0) (d .1))

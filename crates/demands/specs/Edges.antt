@@ -1,14 +1,16 @@
--- The starred edges (01, "At the edges"), all in one statement over a list. Unless said: obvious way, no Customer, limit or
+-- The starred edges (RULE R14.1 to R14.10), all in one statement over a list. Unless said: obvious way, no Customer, limit or
 -- agreement, bytes 46 and 47 at 0.
 use Prim.Native.Nat.{ℕ, _+_}
 use mathlib.Core.Path.{_≡_, refl}
 use mathlib.Core.Bool.{false}
 use mathlib.Core.List.{List, [], _∷_, map}
+use Rattle.wire.specs.Numbers.{numberAt}
 use Rattle.wire.specs.Tests.{inRange}
-use Rattle.facts.specs.Codes.{mills, contracts, seconds}
+use Rattle.facts.specs.Codes.{mills, contracts, seconds, priceNumber, priceOf, momentOf, sideOf, kindOf, dayOf, agreementOf, flagOf}
 use Rattle.ruling.specs.Words.{Price, At, None, Moment, After, Never, Side, Buy, Sell, Kind, Customer, MarketMaker, Day, TradeDate, Later, NotMade, Quote, Market, Facts}
 use Rattle.ruling.specs.declared.Counts.{Counts}
-use Rattle.refusals.specs.Tests.{faultOf, codesOk, codeOk, codeByteOk, pricesOk, quotesPriced, countsOk, timesOk, limitsOk}
+use Rattle.record.specs.Record.{tradeOf, marketOf, requestOf, partyAt, settlementOf, factsOf, recordBytes}
+use Rattle.refusals.specs.Tests.{headOk, zerosOk, listsOk, faultOf, codesOk, codeOk, codeByteOk, pricesOk, quotesPriced, countsOk, timesOk, limitsOk}
 use Rattle.bands.specs.Table.{bandOf}
 use Rattle.bands.specs.Amounts.{inError, movedBy, obviousAdjustmentOf}
 use Rattle.way.specs.Way.{obviousOpen, openingOpen, catastrophicOpen, wayOf}
@@ -18,6 +20,8 @@ use Rattle.act.specs.Limits.{openingTested, openingStopped, catastrophicStopped
 use Rattle.act.specs.Act.{obviousAct, openingAct, catastrophicAct, actOf}
 use Rattle.ruling.specs.Ruling.{ruledAt, ruledOn, ruledBy, rulingOf}
 use Rattle.ruling.specs.Reasons.{outcomeNumber, newPrice, countsOf}
+use Rattle.notices.specs.Records.{rulingRecord, shows, shownCode, noticeRecord, answerRecords}
+use Rattle.answer.specs.Answer.{caseRefusalOf, answerOf, caseOf}
 
 -- ---- the cases: 10 contracts executed at 9:30:00; the market shows one quote for 20, on the side that is looked at, or none
 abbrev quoted : Price → Quote
@@ -137,3 +141,31 @@ edges =
 pub edges-met : map ruled edges ≡ edges
 unfolding faultOf codesOk codeOk codeByteOk pricesOk quotesPriced countsOk timesOk limitsOk inRange bandOf inError movedBy obviousAdjustmentOf wayOf obviousOpen openingOpen catastrophicOpen theoryOf heededOf inTime mayNullify openingTested openingStopped catastrophicStopped obviousAct openingAct catastrophicAct actOf ruledAt ruledOn ruledBy rulingOf
 edges-met = refl
+
+-- ---- the same in bytes: the record of each is accepted and answered with that ruling's 96 bytes
+
+-- what the desk makes of the record of an edge, with a buffer of 96 bytes
+abbrev given : Edge → ℕ × List ℕ
+given e = caseOf (recordBytes (e .facts)) 96
+
+-- the ruling and the notices with the numbers of the edge
+abbrev expected : Edge → ℕ × List ℕ
+expected e = (
+  0,
+  answerRecords
+      (record {
+        trade = 1;
+        outcome = e .outcome;
+        reason = e .reason;
+        tp = priceNumber (e .tp);
+        price = priceNumber (e .new);
+        adjusted = e .counts .adjusted .0;
+        nullified = e .counts .nullified .0;
+        standing = e .counts .standing .0;
+      })
+      (65 ∷ 66 ∷ 49 ∷ 50 ∷ []) (90 ∷ 88 ∷ 57 ∷ 48 ∷ []),
+)
+
+pub edges-answered : map given edges ≡ map expected edges
+unfolding faultOf codesOk codeOk codeByteOk pricesOk quotesPriced countsOk timesOk limitsOk inRange bandOf inError movedBy obviousAdjustmentOf wayOf obviousOpen openingOpen catastrophicOpen theoryOf heededOf inTime mayNullify openingTested openingStopped catastrophicStopped obviousAct openingAct catastrophicAct actOf ruledAt ruledOn ruledBy rulingOf caseOf caseRefusalOf headOk zerosOk listsOk numberAt factsOf tradeOf marketOf requestOf partyAt settlementOf priceOf momentOf sideOf kindOf dayOf agreementOf flagOf answerOf rulingRecord shows shownCode noticeRecord answerRecords
+edges-answered = refl

@@ -1,4 +1,4 @@
--- The ways in which a call ends (01, "Numbers given back instead of a ruling").
+-- The ways in which a call ends (RULE R3.0.2 to R3.0.8).
 use Prim.Native.Nat.{ℕ, _*_, _≤_}
 use mathlib.Core.Path.{_≡_}
 use mathlib.Core.Logic.{_⊎_}

@@ -7,4 +7,5 @@ pub mod Demand3
 pub mod Laws
 pub mod Sheets
 pub mod Edges
+pub mod NotEmpty
 pub mod Exact

@@ -1,11 +1,12 @@
 -- Why demand 1 and the law of reordering hold: what a row of tests gives back, and what the definitions make of it. Nothing is promised here.
 use Prim.Native.Nat.{ℕ, _-_, _*_, _≤_, _<_, zero-le}
-use mathlib.Core.Path.{_≡_, refl, ap, subst, _∙_}
+use mathlib.Core.Path.{_≡_, refl, sym, ap, subst, _∙_}
 use mathlib.Core.Bool.{Bool, true, false}
 use mathlib.Core.Logic.{_⊎_, inl, inr}
-use mathlib.Core.List.{List, [], _∷_, _++_}
+use mathlib.Core.List.{List, [], _∷_, _++_, append-assoc}
 use native.Mathlib.Omega.{arith}
-use lib.ListN.{length, length-append, length-take, length-drop}
+use lib.ListN.{length, take, drop, length-append}
+use lib.Seq.{take-at}
 use lib.Dec.{leb, eqb}
 use borrow.Author.Tests.{leb-true, le-leb, eq-eqb, eqb-true, eqb-false}
 use Rattle.wire.specs.Laid.{laid, row}
@@ -17,12 +18,14 @@ use Rattle.refusals.specs.Tests.{lengthOk, byteTests, factTests}
 use Rattle.cases.specs.Words.{Facts}
 use Rattle.cases.specs.Cases.{refusalOf, readingOf, writeRefusalOf}
 use Rattle.cases.proofs.Laws.{read-number}
-use Rattle.answer.specs.Answer.{caseRefusalOf, answerOf}
+use Rattle.answer.specs.Answer.{caseRefusalOf, answerOf, caseOf}
 use Rattle.answer.proofs.Cases.{answer-length}
 use Rattle.sheet.specs.declared.SheetAnswer.{SheetAnswer}
 use Rattle.sheet.specs.Sheet.{caseAt, casesIn, refusalBytes, entryBytes, entryOf, ruledIn, wholeCases, sheetRefusalOf, refusedWhole, ruledWhole, sheetOf}
 use Rattle.sheet.proofs.Turns.{whole-length}
-use Rattle.lines.specs.Lines.{sheetLine}
+use Rattle.sheet.proofs.Whole.{case-whole}
+use Rattle.text.specs.Text.{letters, spelt, decimalOf}
+use Rattle.lines.specs.Lines.{header, endLine, sheetLine}
 use Rattle.lines.proofs.Lengths.{header-most, end-most, sheet-most}
 use Rattle.report.specs.Report.{lineOf, ruledText, textOf}
 use Rattle.report.proofs.Lines.{line-most}
@@ -70,6 +73,20 @@ write-fits f room e = leb-true 88 room (none-fails (leb 88 room) 11 _ tt e .0)
 pub record-length : (f : Facts) → length (recordBytes f) ≡ 88
 record-length f = refl
 
+-- the bytes that a call leaves where it rules
+pub ruled-bytes : (s l m : List ℕ) (n : ℕ) → (n ≡ caseOf s (length l) .0) × (m ≡ laid (caseOf s (length l) .1) l) → n ≡ 0 → take 96 m ≡ answerOf (factsOf s)
+unfolding laid caseOf
+ruled-bytes s l m n p e = by-test (eqb k 0) refl p where
+  k : ℕ
+  k = caseRefusalOf s (length l)
+
+  a : List ℕ
+  a = answerOf (factsOf s)
+
+  by-test : (b : Bool) → eqb k 0 ≡ b → (n ≡ pick {A = ℕ × List ℕ} b (0, a) (k, []) .0) × (m ≡ laid (pick {A = ℕ × List ℕ} b (0, a) (k, []) .1) l) → take 96 m ≡ a
+  by-test true h p = ap (take 96) (p .1) ∙ take-at a (drop (length a) l) 96 (answer-length (factsOf s))
+  by-test false h p = absurd (eqb-false k 0 h (sym (p .0) ∙ e))
+
 -- ---- a sheet: the row where the number is 0, nothing where it is 10 or 11
 module _ (s : List ℕ) (room : ℕ) where
   abbrev number : ℕ
@@ -109,16 +126,12 @@ module _ {A : Type 0} (view : SheetAnswer → A) (s : List ℕ) (r : A) (l m : L
   sheet-ended a (inr (inl h)) p = let q = subst Left h p in inr (inl (q .0), q .1)
   sheet-ended a (inr (inr h)) p = let q = subst Left h p in inr (inr (q .0), q .1)
 
--- two sheets of one length, with as many cases ruled and as many bytes written, have the same answer
-module _ (s t : List ℕ) (n : ℕ) (ruled : ruledIn s n ≡ ruledIn t n) (written : length (row (entryOf s) n) ≡ length (row (entryOf t) n)) where
-  picked : (b : Bool) (m : ℕ) → pick b (ruledWhole t n) (refusedWhole m) .0 ≡ pick b (ruledWhole s n) (refusedWhole m) .0
-  picked true m = rw (ruled, written) refl
-  picked false m = refl
-
-pub same-answer : (s t : List ℕ) (room : ℕ) → length s ≡ length t → ruledIn s (casesIn s) ≡ ruledIn t (casesIn s)
-    → length (row (entryOf s) (casesIn s)) ≡ length (row (entryOf t) (casesIn s)) → sheetOf t room .0 ≡ sheetOf s room .0
-unfolding sheetOf sheetRefusalOf wholeCases
-same-answer s t room long ruled written = rw (← long) (picked s t (casesIn s) ruled written (eqb (sheetRefusalOf s room) 0) (sheetRefusalOf s room))
+-- a sheet refused whole writes nothing
+pub none-written : (s : List ℕ) (room : ℕ) → (sheetOf s room .0 .refusal ≡ 0 → ⊥) → sheetOf s room .1 ≡ []
+unfolding sheetOf
+none-written s room =
+    either (λ (a : SheetAnswer × List ℕ). (a .0 .refusal ≡ 0 → ⊥) → a .1 ≡ []) (eqb (sheetRefusalOf s room) 0) (ruledWhole s (casesIn s)) (refusedWhole (sheetRefusalOf s room))
+    (λ h d. absurd (d refl)) (λ h d. refl)
 
 -- ---- a case of a sheet has 88 bytes, so its number is not 1
 module _ (s : List ℕ) (k : ℕ) (within : k < casesIn s) where
@@ -128,13 +141,9 @@ module _ (s : List ℕ) (k : ℕ) (within : k < casesIn s) where
   abbrev n : ℕ
   n = readingOf c .refusal
 
-  whole : length c ≡ 88
-  unfolding caseAt
-  whole = simp (length-take, length-drop) (omega arith)
-
   entry-told : Told entryNumbers n
   unfolding refusalOf
-  entry-told = rw (read-number c) (simp (eq-eqb (length c) 88 whole) (told (byteTests c ++ factTests (factsOf c))))
+  entry-told = rw (read-number c) (simp (eq-eqb (length c) 88 (case-whole s k within)) (told (byteTests c ++ factTests (factsOf c))))
 
   abbrev As : List ℕ → Type 0
   As w = ((n ≡ 0) × (w ≡ answerOf (readingOf c .facts)) × (length w ≡ 96)) ⊎ (OneOf entryNumbers n × (w ≡ refusalBytes k n) × (length w ≡ 12))
@@ -145,9 +154,9 @@ module _ (s : List ℕ) (k : ℕ) (within : k < casesIn s) where
 
 -- ---- the printer's text: 600 lines of 85 bytes at most, the header and END
 module _ (s : List ℕ) where
-  pub text-answered : (textOf s ≡ ruledText s (casesIn s)) ⊎ (textOf s ≡ sheetLine 10)
+  pub text-answered : (wholeCases s ≡ true → textOf s ≡ ruledText s (casesIn s)) × (wholeCases s ≡ false → textOf s ≡ sheetLine 10)
   unfolding textOf
-  text-answered = either (λ (t : List ℕ). (t ≡ ruledText s (casesIn s)) ⊎ (t ≡ sheetLine 10)) (wholeCases s) _ _ (λ h. inl refl) (λ h. inr refl)
+  text-answered = ((λ h. simp h), (λ h. simp h))
 
   whole-fits : (n : ℕ) → n ≤ 600 → length (ruledText s n) ≤ 65536
   whole-fits n h =
@@ -158,3 +167,11 @@ module _ (s : List ℕ) where
   unfolding textOf
   text-fits =
       either (λ (t : List ℕ). length t ≤ 65536) (wholeCases s) _ _ (λ h. whole-fits (casesIn s) (omega (arith, whole-length s h))) (λ h. omega (arith, sheet-most 10))
+
+  pub header-first : wholeCases s ≡ true → (rest : List ℕ) × (textOf s ≡ header ++ rest)
+  unfolding textOf
+  header-first h = (row (lineOf s) (casesIn s) ++ endLine (ruledIn s (casesIn s)) (casesIn s - ruledIn s (casesIn s)), simp h (append-assoc header _ _))
+
+pub empty-report : textOf [] ≡ letters "TRADE OUTCOME REASON TP NEW ADJ NUL OLD" ++ (10 ∷ []) ++ letters "END 0 0" ++ (10 ∷ [])
+unfolding textOf wholeCases header endLine row ruledIn decimalOf spelt
+empty-report = refl

@@ -1,9 +1,6 @@
 -- Each callable function's promise, as Rattle reads it from the contract, allows one result.
-use Prim.Native.Nat.{ℕ}
 use mathlib.Core.Path.{sym, _∙_}
-use mathlib.Core.Bool.{Bool}
-use Rattle.wire.specs.Exact.{OneAnswer}
-use Rattle.facts.specs.Words.{Mills, Price, Moment, Side, Kind, Day, Agreement}
+use Rattle.wire.specs.Exact.{Exact}
 use Rattle.facts.proofs.price_of.Reads as price-of
 use Rattle.facts.proofs.price_number.Reads as price-number
 use Rattle.facts.proofs.moment_of.Reads as moment-of
@@ -20,51 +17,47 @@ use Rattle.facts.proofs.flag_of.Reads as flag-of
 use Rattle.facts.proofs.flag_number.Reads as flag-number
 use Rattle.facts.proofs.violates.Reads as violates
 
--- ---- a number read
-module _ (n : ℕ) where
-  pub price-of-exact : OneAnswer (λ (r : Price). price-of.Post tt (n, tt) r (n, tt))
-  price-of-exact r r' p q = p .0 ∙ sym (q .0)
+pub price-of-exact : Exact (price-of.Post tt)
+price-of-exact a e e' r r' p q = p .0 ∙ sym (q .0)
 
-  pub moment-of-exact : OneAnswer (λ (r : Moment). moment-of.Post tt (n, tt) r (n, tt))
-  moment-of-exact r r' p q = p .0 ∙ sym (q .0)
+pub moment-of-exact : Exact (moment-of.Post tt)
+moment-of-exact a e e' r r' p q = p .0 ∙ sym (q .0)
 
-  pub side-of-exact : OneAnswer (λ (r : Side). side-of.Post tt (n, tt) r (n, tt))
-  side-of-exact r r' p q = p .0 ∙ sym (q .0)
+pub side-of-exact : Exact (side-of.Post tt)
+side-of-exact a e e' r r' p q = p .0 ∙ sym (q .0)
 
-  pub kind-of-exact : OneAnswer (λ (r : Kind). kind-of.Post tt (n, tt) r (n, tt))
-  kind-of-exact r r' p q = p .0 ∙ sym (q .0)
+pub kind-of-exact : Exact (kind-of.Post tt)
+kind-of-exact a e e' r r' p q = p .0 ∙ sym (q .0)
 
-  pub day-of-exact : OneAnswer (λ (r : Day). day-of.Post tt (n, tt) r (n, tt))
-  day-of-exact r r' p q = p .0 ∙ sym (q .0)
+pub day-of-exact : Exact (day-of.Post tt)
+day-of-exact a e e' r r' p q = p .0 ∙ sym (q .0)
 
-  pub agreement-of-exact : OneAnswer (λ (r : Agreement). agreement-of.Post tt (n, tt) r (n, tt))
-  agreement-of-exact r r' p q = p .0 ∙ sym (q .0)
+pub agreement-of-exact : Exact (agreement-of.Post tt)
+agreement-of-exact a e e' r r' p q = p .0 ∙ sym (q .0)
 
-  pub flag-of-exact : OneAnswer (λ (r : Bool). flag-of.Post tt (n, tt) r (n, tt))
-  flag-of-exact r r' p q = p ∙ sym q
+pub flag-of-exact : Exact (flag-of.Post tt)
+flag-of-exact a e e' r r' p q = p ∙ sym q
 
--- ---- a number spelled
-pub price-number-exact : (x : Price) → OneAnswer (λ (r : ℕ). price-number.Post tt (x, tt) r (x, tt))
-price-number-exact x r r' p q = p ∙ sym q
+pub price-number-exact : Exact (price-number.Post tt)
+price-number-exact a e e' r r' p q = p ∙ sym q
 
-pub moment-number-exact : (x : Moment) → OneAnswer (λ (r : ℕ). moment-number.Post tt (x, tt) r (x, tt))
-moment-number-exact x r r' p q = p ∙ sym q
+pub moment-number-exact : Exact (moment-number.Post tt)
+moment-number-exact a e e' r r' p q = p ∙ sym q
 
-pub side-number-exact : (x : Side) → OneAnswer (λ (r : ℕ). side-number.Post tt (x, tt) r (x, tt))
-side-number-exact x r r' p q = p ∙ sym q
+pub side-number-exact : Exact (side-number.Post tt)
+side-number-exact a e e' r r' p q = p ∙ sym q
 
-pub kind-number-exact : (x : Kind) → OneAnswer (λ (r : ℕ). kind-number.Post tt (x, tt) r (x, tt))
-kind-number-exact x r r' p q = p ∙ sym q
+pub kind-number-exact : Exact (kind-number.Post tt)
+kind-number-exact a e e' r r' p q = p ∙ sym q
 
-pub day-number-exact : (x : Day) → OneAnswer (λ (r : ℕ). day-number.Post tt (x, tt) r (x, tt))
-day-number-exact x r r' p q = p ∙ sym q
+pub day-number-exact : Exact (day-number.Post tt)
+day-number-exact a e e' r r' p q = p ∙ sym q
 
-pub agreement-number-exact : (x : Agreement) → OneAnswer (λ (r : ℕ). agreement-number.Post tt (x, tt) r (x, tt))
-agreement-number-exact x r r' p q = p ∙ sym q
+pub agreement-number-exact : Exact (agreement-number.Post tt)
+agreement-number-exact a e e' r r' p q = p ∙ sym q
 
-pub flag-number-exact : (x : Bool) → OneAnswer (λ (r : ℕ). flag-number.Post tt (x, tt) r (x, tt))
-flag-number-exact x r r' p q = p ∙ sym q
+pub flag-number-exact : Exact (flag-number.Post tt)
+flag-number-exact a e e' r r' p q = p ∙ sym q
 
--- ---- a limit tested
-pub violates-exact : (s : Side) (l : Price) (x : Mills) → OneAnswer (λ (r : Bool). violates.Post tt (s, (l, (x, tt))) r (s, (l, (x, tt))))
-violates-exact s l x r r' p q = p ∙ sym q
+pub violates-exact : Exact (violates.Post tt)
+violates-exact a e e' r r' p q = p ∙ sym q

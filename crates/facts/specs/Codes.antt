@@ -1,4 +1,4 @@
--- The numbers by which the record spells a price or none, a moment or none, and each coded byte (01, "The case record").
+-- The numbers by which the record spells a price or none, a moment or none, and each coded byte (RULE R2.4, R2.6).
 -- `..Number` gives the page's number for each case of an answer; `..Of` reads it back. A byte outside its list reads
 -- as the last case: refusal 3 is given before anyone uses that reading.
 use Prim.Native.Nat.{ℕ}

@@ -1,4 +1,4 @@
--- A price violates a buyer's limit if above it, a seller's if below; none is never violated (01, "Then the act").
+-- A price violates a buyer's limit if above it, a seller's if below; none is never violated (RULE R8.1).
 use mathlib.Core.Bool.{Bool, false}
 use lib.Dec.{ltb}
 use Rattle.facts.specs.Words.{Mills, Price, At, None, Side, Buy, Sell}

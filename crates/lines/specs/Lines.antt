@@ -1,4 +1,4 @@
--- The lines that the printer writes (01, "The printer reads a sheet").
+-- The lines that the printer writes (RULE R11).
 use Prim.Native.Nat.{ℕ}
 use mathlib.Core.List.{List, [], _∷_, _++_}
 use lib.Dec.{eqb}

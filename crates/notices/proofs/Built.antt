@@ -6,7 +6,7 @@ use lib.ListN.{length, replicate}
 use Rattle.wire.specs.Numbers.{elements, stored}
 use Rattle.facts.specs.Codes.{sideNumber}
 use Rattle.notices.specs.Words.{Side, Ruling, Figures}
-use Rattle.notices.specs.Records.{headBytes, ruledBytes, rulingRecord, rulingBytes, toldBytes, shownCode, codeBytes, noticeRecord, noticeBytes, answerRecords, answerBytes}
+use Rattle.notices.specs.Records.{startBytes, ruledBytes, rulingRecord, rulingBytes, toldBytes, shownCode, codeBytes, noticeRecord, noticeBytes, answerRecords, answerBytes}
 
 pub codes-built : (outcome : ℕ) (code other shown o o₁ o₂ : List ℕ)
     → shown ≡ shownCode outcome other
@@ -17,7 +17,7 @@ codes-built outcome code other shown o o₁ o₂ e first second =
     second ∙ ap (λ (l : List ℕ). stored l 28 (elements 4 code 0)) (first ∙ ap (λ (l : List ℕ). stored o 24 (elements 4 l 0)) e)
 
 pub ruling-built : (n : Figures) (o₁ o₂ : List ℕ)
-    → o₁ ≡ stored (replicate 32 0) 0 (headBytes 16 n 0)
+    → o₁ ≡ stored (replicate 32 0) 0 (startBytes 16 n 0)
     → o₂ ≡ stored o₁ 12 (ruledBytes n)
     → o₂ ≡ rulingRecord n
 unfolding rulingRecord
@@ -25,7 +25,7 @@ ruling-built n o₁ o₂ head ruled = ruled ∙ ap (λ (l : List ℕ). stored l 
 
 pub notice-built : (n : Figures) (recipient : Side) (code other : List ℕ) (side : ℕ) (o₁ o₂ o₃ : List ℕ)
     → side ≡ sideNumber recipient
-    → o₁ ≡ stored (replicate 32 0) 0 (headBytes 17 n side)
+    → o₁ ≡ stored (replicate 32 0) 0 (startBytes 17 n side)
     → o₂ ≡ stored o₁ 12 (toldBytes n)
     → o₃ ≡ stored o₂ 24 (codeBytes (n .outcome) code other)
     → o₃ ≡ noticeRecord n recipient code other

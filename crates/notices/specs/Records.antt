@@ -1,4 +1,4 @@
--- What goes out (01; document 003, Commentary .03): the ruling record and the two notices, 32 bytes each, a row of the page to a line.
+-- What goes out (RULE R10.1, R10.2; document 003, Commentary .03): the ruling record and the two notices, 32 bytes each, a row of the page to a line.
 use Prim.Native.Nat.{ℕ}
 use mathlib.Core.Bool.{Bool}
 use mathlib.Core.List.{List, [], _∷_, _++_}
@@ -9,8 +9,8 @@ use Rattle.figures.specs.Figures.{figuresOf}
 use Rattle.notices.specs.Words.{Side, Buy, Sell, Ruling, Figures}
 
 -- ---- how both records begin; at 10 each has a byte of its own
-abbrev pub headBytes : ℕ → Figures → ℕ → List ℕ
-headBytes kind n own =
+abbrev pub startBytes : ℕ → Figures → ℕ → List ℕ
+startBytes kind n own =
     -- 0 length 32
     bytes 2 32
     -- 2 kind
@@ -35,7 +35,7 @@ ruledBytes n =
     ++ bytes 4 (n .standing)
 
 unfoldable pub rulingRecord : Figures → List ℕ
-rulingRecord n = headBytes 16 n 0 ++ ruledBytes n
+rulingRecord n = startBytes 16 n 0 ++ ruledBytes n
 
 abbrev pub rulingBytes : Ruling → List ℕ
 rulingBytes r = rulingRecord (figuresOf r)
@@ -66,7 +66,7 @@ codeBytes outcome code other =
 
 -- to a recipient, with the recipient's code and the other party's
 unfoldable pub noticeRecord : Figures → Side → List ℕ → List ℕ → List ℕ
-noticeRecord n recipient code other = headBytes 17 n (sideNumber recipient) ++ toldBytes n ++ codeBytes (n .outcome) code other
+noticeRecord n recipient code other = startBytes 17 n (sideNumber recipient) ++ toldBytes n ++ codeBytes (n .outcome) code other
 
 abbrev pub noticeBytes : Ruling → Side → List ℕ → List ℕ → List ℕ
 noticeBytes r recipient code other = noticeRecord (figuresOf r) recipient code other

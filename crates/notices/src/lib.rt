@@ -5,7 +5,7 @@ ghost use Prim.Native.Nat.{_+_, _≤_};
 ghost use lib.ListN.{length};
 ghost use Rattle.wire.specs.Numbers.{elements, stored};
 ghost use Rattle.wire.specs.Laid.{laid};
-ghost use Rattle.notices.specs.Records.{headBytes, ruledBytes, rulingRecord, toldBytes, shows, shownCode, codeBytes, noticeRecord, answerRecords};
+ghost use Rattle.notices.specs.Records.{startBytes, ruledBytes, rulingRecord, toldBytes, shows, shownCode, codeBytes, noticeRecord, answerRecords};
 use facts::Side;
 use figures::Figures;
 
@@ -33,7 +33,7 @@ fn shown_code(outcome: u8, code: [u8; 4]) -> [u8; 4]
 
 fn put_head(out: &mut [u8], kind: u16, n: Figures, own: u8)
     requires { ⌜ 32 ≤ length (now out) ⌝ }
-    ensures { λ _. ⌜ now (out .exit) ≡ stored (now (out .entry)) 0 (headBytes kind n own) ⌝ }
+    ensures { λ _. ⌜ now (out .exit) ≡ stored (now (out .entry)) 0 (startBytes kind n own) ⌝ }
 {
     wire::put_u16(out, 0, 32);
     wire::put_u16(out, 2, kind);

@@ -1,4 +1,4 @@
--- The case record, 88 bytes (01): what each row of the page's table says, and the bytes that say it.
+-- The case record, 88 bytes (RULE R2.6): what each row of the page's table says, and the bytes that say it.
 use Prim.Native.Nat.{ℕ, _+_}
 use mathlib.Core.List.{List, [], _∷_, _++_}
 use lib.ListN.{getD}

@@ -1,4 +1,4 @@
--- The tests 1 to 9 of "Numbers given back instead of a ruling" (01), numbered and in the table's order. A test says what is
+-- The tests 1 to 9 of "Numbers given back instead of a ruling" (RULE R3.1 to R3.9), numbered and in the table's order. A test says what is
 -- in order; its number is given back where it is the first that does not hold.
 use Prim.Native.Nat.{ℕ}
 use mathlib.Core.Bool.{Bool, true, false, not, _&&_, _||_}

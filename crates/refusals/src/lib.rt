@@ -1,4 +1,4 @@
-// The tests behind document 01's "Numbers given back instead of a ruling", in the table's order.
+// The tests behind "Numbers given back instead of a ruling" (RULE R3), in the table's order.
 // Here the tests on bytes, 1 to 3; `faults` runs those on facts, 4 to 9, by the definitions that stand here beside each other.
 ghost use mathlib.Core.Path.{_≡_};
 ghost use lib.ListN.{length};

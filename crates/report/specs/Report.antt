@@ -1,4 +1,4 @@
--- What the printer writes for a sheet (01, "The printer reads a sheet").
+-- What the printer writes for a sheet (RULE R11).
 use Prim.Native.Nat.{ℕ, _-_}
 use mathlib.Core.List.{List, _++_}
 use lib.Dec.{eqb}

@@ -1,4 +1,4 @@
--- What a sheet answers (01, "What goes out" and "Numbers given back instead of a ruling"). A sheet is a row of cases.
+-- What a sheet answers (RULE R3.0.5, R10.3 to R10.6). A sheet is a row of cases.
 use Prim.Native.Nat.{ℕ, zero, suc, _+_, _-_, _*_, _/_, _%_}
 use mathlib.Core.Bool.{Bool, _&&_}
 use mathlib.Core.List.{List, [], _∷_, _++_}
@@ -12,8 +12,11 @@ use Rattle.answer.specs.Answer.{answerOf}
 use Rattle.sheet.specs.Words.{Reading, SheetAnswer}
 
 -- ---- the place of a case: case k begins at 88 · k
+abbrev pub startOf : List ℕ → ℕ → ℕ
+startOf s k = k * 88
+
 unfoldable pub caseAt : List ℕ → ℕ → List ℕ
-caseAt s k = take 88 (drop (k * 88) s)
+caseAt s k = take 88 (drop (startOf s k) s)
 
 abbrev pub casesIn : List ℕ → ℕ
 casesIn s = length s / 88
@@ -56,8 +59,3 @@ ruledWhole s n = (record { refusal = 0; written = length (row (entryOf s) n); ru
 -- the answer, with the bytes that are written into a buffer of `room` bytes: none where the sheet is refused whole
 unfoldable pub sheetOf : List ℕ → ℕ → SheetAnswer × List ℕ
 sheetOf s room = pick (eqb (sheetRefusalOf s room) 0) (ruledWhole s (casesIn s)) (refusedWhole (sheetRefusalOf s room))
-
--- the first n cases of a sheet, the last of them first
-unfoldable pub casesOf : List ℕ → ℕ → List (List ℕ)
-casesOf s zero = []
-casesOf s (suc k) = caseAt s k ∷ casesOf s k

@@ -1,4 +1,4 @@
--- The good record, by the rows of 01's table.
+-- The good record, by the rows of the page's table (RULE R2.6).
 use Prim.Native.Nat.{ℕ}
 use mathlib.Core.List.{List, [], _∷_, _++_}
 use Rattle.wire.specs.Numbers.{bytes}

@@ -1,4 +1,5 @@
-// A good case record, and the same with one place changed: what the programs that run the edges bring to the desk.
+// A good case record, and the same with one place changed: what the programs that run the edges bring to the desk, and what shows that
+// the tests let something through (`refusals`, `demands`).
 ghost use mathlib.Core.Path.{_≡_};
 ghost use Prim.Native.Nat.{_+_, _≤_, _<_};
 ghost use lib.ListN.{set};
@@ -9,7 +10,7 @@ ghost use Rattle.specimen.specs.Good.{goodCase};
 pub type Record = [u8; 88];
 
 // Trade 7: a Market Maker bought 10 at 2.000 from another at 9:30:00 (34,200), the market 1.400 for 20 to 1.500 for 30;
-// filed 120 s later. No limits, no agreement, no official's price. The order is that of 01's table.
+// filed 120 s later. No limits, no agreement, no official's price. The order is that of the page's table (RULE R2.6).
 pub fn good() -> Record
     ensures { λ r. ⌜ r ≡ goodCase ⌝ }
 {

@@ -1,4 +1,4 @@
--- Numbers and prices as the printer spells them (01, "The printer reads a sheet": prices in mills, `-` for none), and where they go in a lent buffer.
+-- Numbers and prices as the printer spells them (RULE R11.3: prices in mills, `-` for none), and where they go in a lent buffer.
 use Prim.Native.Nat.{ℕ, zero, suc, _+_, _-_, _*_, _/_, _%_}
 use Prim.Native.Char.{code}
 use Prim.Native.String.{String, [] as nothing, _∷_ as _then_}

@@ -1,4 +1,4 @@
--- Tests of the filing day and of times. A time is counted in seconds from midnight or from notice; what is compared is of one sort.
+-- Tests of the filing day and of times (RULE R4.1 to R4.3). A time is counted in seconds from midnight or from notice; what is compared is of one sort.
 use Prim.Native.Nat.{_+_}
 use mathlib.Core.Bool.{Bool, true, false}
 use lib.Dec.{leb}

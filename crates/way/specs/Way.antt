@@ -1,5 +1,6 @@
--- The way of a request (01, "First the way"): the first that is open by time decides, and no other is tried.
--- Obvious and opening times are those of document 003 (a)(3)(A), catastrophic ones those of document 000, struck (d)(3)(A).
+-- The way of a request (RULE R4): the first that is open by time decides, and no other is tried.
+-- The 300 s and 1,200 s are those of document 003 (a)(3)(A), 16:30:00 that of document 000, struck (a)(3)(C) and (D), the catastrophic
+-- times those of document 000, struck (d)(3)(A).
 use mathlib.Core.Bool.{Bool, not, _&&_, _||_}
 use Rattle.wire.specs.Tests.{pick}
 use Rattle.facts.specs.Codes.{seconds}
@@ -7,31 +8,32 @@ use Rattle.way.specs.Words.{Seconds, Request, Kind, Customer, MarketMake
 use Rattle.parties.specs.Parties.{isCustomer}
 use Rattle.way.specs.Times.{isTradeDate, isNextDay, noLater, within}
 
--- A Market Maker in error has 300 s from execution for the obvious way, anyone else 1,200 s.
+-- A Market Maker in error has 300 s from execution for the obvious way, anyone else 1,200 s (RULE R4.1).
 abbrev pub obviousTime : Kind → Seconds
 obviousTime Customer = seconds 1200
 obviousTime MarketMaker = seconds 300
 obviousTime Other = seconds 1200
 
--- Obvious: on day 0, and within that time.
+-- Obvious: on day 0, and within that time (RULE R4.1).
 unfoldable pub obviousOpen : Day → Seconds → Seconds → Kind → Bool
 obviousOpen day executed filed kind = isTradeDate day && within (obviousTime kind) executed filed
 
--- Opening: on day 0, of an opening trade, with a Customer in error, once 1,200 s have passed since execution, up to 16:30:00.
+-- Opening: on day 0, of an opening trade, with a Customer in error, more than 1,200 s after execution, up to 16:30:00 (RULE R4.2).
 unfoldable pub openingOpen : Day → Bool → Seconds → Seconds → Kind → Bool
 openingOpen day opening executed filed kind =
     isTradeDate day && opening && isCustomer kind && not (within (seconds 1200) executed filed) && noLater filed (seconds 59400)
 
--- Catastrophic: under the expiry deadline of byte 46 on day 0 up to 17:00:00; without it on all of day 0, and on day 1 up to 8:30:00.
+-- Catastrophic: under the expiry deadline of byte 46 on day 0 up to 17:00:00; without it on all of day 0, and on day 1 up to 8:30:00
+-- (RULE R4.3).
 unfoldable pub catastrophicOpen : Day → Bool → Seconds → Bool
 catastrophicOpen day expiry filed =
     pick expiry (isTradeDate day && noLater filed (seconds 61200)) (isTradeDate day || isNextDay day && noLater filed (seconds 30600))
 
--- The first one open, in this order.
+-- The first one open, in this order (RULE R4.0).
 abbrev pub firstOpen : Bool → Bool → Bool → Open
 firstOpen obvious opening catastrophic = pick obvious (By Obvious) (pick opening (By Opening) (pick catastrophic (By Catastrophic) Closed))
 
--- The way of a request. A Market Maker past 300 s is not late: the catastrophic way may be open to it.
+-- The way of a request. A Market Maker past 300 s is not late: the catastrophic way may be open to it (RULE R4.6).
 unfoldable pub wayOf : Seconds → Request → Kind → Open
 wayOf executed q kind =
     firstOpen

@@ -6,7 +6,7 @@ use native.Mathlib.Omega.{arith}
 use native.Mathlib.Nat.{zero-add}
 use lib.ListN.{length, getD, drop}
 use lib.Seq.{drop-cons, drop-length}
-use Rattle.wire.specs.Numbers.{joined, bytes, elementsFrom, elements, numberAt}
+use Rattle.wire.specs.Numbers.{AreBytes, joined, bytes, elementsFrom, elements, numberAt}
 
 -- what w bytes can hold
 abbrev pub room : ℕ → ℕ
@@ -30,7 +30,7 @@ pub elements-all : (w : ℕ) (s : List ℕ) → length s ≡ w → elements w s 
 elements-all w s e = elements-left w 0 s (omega arith)
 
 -- every byte of a slice is below 256
-module _ (s : List ℕ) (small : (i : ℕ) → getD s i 0 < 256) where
+module _ (s : List ℕ) (small : AreBytes s) where
   bytes-joined : (w i k : ℕ) → bytes w (joined (elementsFrom w s i k)) ≡ elementsFrom w s i k
   bytes-joined zero i k = refl
   bytes-joined (suc w) i k =

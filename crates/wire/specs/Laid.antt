@@ -1,4 +1,4 @@
--- What a call leaves of a lent buffer (01, "Numbers given back": every byte after those written is kept).
+-- What a call leaves of a lent buffer (RULE R3.0.7: every byte after those written is kept).
 use Prim.Native.Nat.{ℕ, zero, suc}
 use mathlib.Core.List.{List, [], _++_}
 use lib.ListN.{length, drop}

@@ -1,7 +1,11 @@
--- Numbers as bytes, lowest byte first (01, "The case record": little-endian). One definition each way serves every width.
-use Prim.Native.Nat.{ℕ, zero, suc, _+_, _*_, _/_, _%_}
+-- Numbers as bytes, lowest byte first (RULE R2.1). One definition each way serves every width.
+use Prim.Native.Nat.{ℕ, zero, suc, _+_, _*_, _/_, _%_, _<_}
 use mathlib.Core.List.{List, [], _∷_}
 use lib.ListN.{getD, set}
+
+-- each element is a byte: what a `&[u8]` holds by its type, and a definition's list need not
+abbrev pub AreBytes : List ℕ → Type 0
+AreBytes s = (i : ℕ) → getD s i 0 < 256
 
 -- the number that these bytes stand for
 abbrev pub joined : List ℕ → ℕ

@@ -1,4 +1,4 @@
--- The words of tests.
+-- The words of tests (RULE R3.0.1).
 use Prim.Native.Nat.{ℕ}
 use mathlib.Core.Bool.{Bool, true, false, _&&_}
 use mathlib.Core.List.{List, [], _∷_}

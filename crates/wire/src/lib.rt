@@ -1,4 +1,4 @@
-// Numbers in byte slices, lowest byte first, as document 01's records have them.
+// Numbers in byte slices, lowest byte first, as the page's records have them (RULE R2.1).
 // Each function asks for room at its place: the records above test their length once, and no byte is tested again.
 ghost use mathlib.Core.Path.{_≡_};
 ghost use mathlib.Core.List.{[], _∷_};

@@ -1,0 +1,76 @@
+-- The demands are not empty (RULE R13.4): a good record (`specimen`) is accepted, ruled in its 96 bytes, written back, and ruled in a sheet. A desk whose
+-- code and definitions are wrong alike, refusing everything, writing nothing or copying a sheet's first answer on, fails here. By computation;
+-- the bytes were worked out by hand.
+use Prim.Native.Nat.{ℕ}
+use mathlib.Core.Path.{_≡_, refl}
+use mathlib.Core.List.{List, [], _∷_, _++_}
+use Rattle.wire.specs.Laid.{row}
+use Rattle.wire.specs.Numbers.{bytes, stored, numberAt}
+use Rattle.wire.specs.Tests.{inRange}
+use Rattle.facts.specs.Codes.{priceOf, momentOf, sideOf, kindOf, dayOf, agreementOf, flagOf}
+use Rattle.record.specs.Record.{tradeOf, marketOf, requestOf, partyAt, settlementOf, factsOf}
+use Rattle.refusals.specs.Tests.{headOk, zerosOk, listsOk, codesOk, codeOk, codeByteOk, pricesOk, quotesPriced, countsOk, timesOk, limitsOk}
+use Rattle.cases.specs.Cases.{refusalOf, accepted, refused, readingOf, writeRefusalOf, writingOf}
+use Rattle.bands.specs.Table.{bandOf}
+use Rattle.bands.specs.Amounts.{inError, movedBy, obviousAdjustmentOf}
+use Rattle.way.specs.Way.{obviousOpen, openingOpen, catastrophicOpen, wayOf}
+use Rattle.theory.specs.Theory.{theoryOf}
+use Rattle.agreement.specs.Agreed.{inTime, mayNullify, heededOf}
+use Rattle.act.specs.Limits.{openingTested, openingStopped}
+use Rattle.act.specs.Act.{obviousAct, openingAct, actOf}
+use Rattle.ruling.specs.Ruling.{ruledAt, ruledOn, ruledBy, rulingOf}
+use Rattle.notices.specs.Records.{rulingRecord, shows, shownCode, noticeRecord, answerRecords}
+use Rattle.answer.specs.Answer.{caseRefusalOf, answerOf, caseOf}
+use Rattle.sheet.specs.Sheet.{caseAt, refusalBytes, entryBytes, ruledOne, ruledIn, wholeCases, sheetRefusalOf, sheetOf}
+use Rattle.specimen.specs.Good.{goodCase}
+
+-- Trade 7, two Market Makers: a buy of 10 at 2.000, best offer 1.500, filed after 120 s. 2.000 is at least 1.500 + .25, so 1.500 + .15 for
+-- reason 6, all 10 contracts. In mills:
+abbrev goodAnswer : List ℕ
+goodAnswer =
+    -- the ruling: length, kind, trade; outcome, reason, two zeros; TP, new price; contracts adjusted, nullified, standing
+    bytes 2 32 ++ bytes 2 16 ++ bytes 4 7 ++ (1 ∷ 6 ∷ 0 ∷ 0 ∷ []) ++ bytes 4 1500 ++ bytes 4 1650 ++ bytes 4 10 ++ bytes 4 0 ++ bytes 4 0
+    -- to the buyer: length, kind, trade; outcome, reason, recipient, zero; new price; contracts adjusted, nullified; the seller's code, its own
+    ++ bytes 2 32 ++ bytes 2 17 ++ bytes 4 7 ++ (1 ∷ 6 ∷ 1 ∷ 0 ∷ []) ++ bytes 4 1650 ++ bytes 4 10 ++ bytes 4 0 ++ (90 ∷ 88 ∷ 57 ∷ 48 ∷ []) ++ (65 ∷ 66 ∷ 49 ∷ 50 ∷ [])
+    -- to the seller, likewise
+    ++ bytes 2 32 ++ bytes 2 17 ++ bytes 4 7 ++ (1 ∷ 6 ∷ 2 ∷ 0 ∷ []) ++ bytes 4 1650 ++ bytes 4 10 ++ bytes 4 0 ++ (65 ∷ 66 ∷ 49 ∷ 50 ∷ []) ++ (90 ∷ 88 ∷ 57 ∷ 48 ∷ [])
+
+-- It is accepted.
+pub good-accepted : readingOf goodCase ≡ accepted (factsOf goodCase)
+unfolding readingOf refusalOf headOk zerosOk listsOk codesOk codeOk codeByteOk pricesOk quotesPriced countsOk timesOk limitsOk inRange numberAt factsOf tradeOf marketOf requestOf partyAt settlementOf priceOf momentOf sideOf kindOf dayOf agreementOf flagOf
+good-accepted = refl
+
+-- Its facts are written back in 88 bytes, and they are the record's.
+pub good-written : writingOf (factsOf goodCase) 88 ≡ (0, goodCase)
+unfolding writingOf writeRefusalOf codesOk codeOk codeByteOk pricesOk quotesPriced countsOk timesOk limitsOk inRange numberAt factsOf tradeOf marketOf requestOf partyAt settlementOf priceOf momentOf sideOf kindOf dayOf agreementOf flagOf
+good-written = refl
+
+-- It is ruled in these 96 bytes.
+pub good-ruled : caseOf goodCase 96 ≡ (0, goodAnswer)
+unfolding caseOf caseRefusalOf headOk zerosOk listsOk codesOk codeOk codeByteOk pricesOk quotesPriced countsOk timesOk limitsOk inRange numberAt factsOf tradeOf marketOf requestOf partyAt settlementOf priceOf momentOf sideOf kindOf dayOf agreementOf flagOf bandOf inError movedBy obviousAdjustmentOf wayOf obviousOpen openingOpen catastrophicOpen theoryOf heededOf inTime mayNullify obviousAct actOf ruledAt ruledOn ruledBy rulingOf rulingRecord shows shownCode noticeRecord answerRecords answerOf
+good-ruled = refl
+
+-- the same without contracts, which fails test 6
+abbrev badCase : List ℕ
+badCase = stored goodCase 12 (bytes 4 0)
+
+-- length, kind, index, number, two zeros
+abbrev badAnswer : List ℕ
+badAnswer = bytes 2 12 ++ bytes 2 18 ++ bytes 4 1 ++ bytes 2 6 ++ bytes 2 0
+
+-- the good record on the opening, 50 contracts bought by a Customer and filed after 1,201 s: repriced to the offer itself for reason 7, and for
+-- no more than its size of 30, so that 20 stand
+abbrev openingCase : List ℕ
+openingCase = stored (stored (stored (stored goodCase 12 (bytes 4 50)) 45 (1 ∷ [])) 64 (1 ∷ [])) 72 (bytes 4 35401)
+
+abbrev openingAnswer : List ℕ
+openingAnswer =
+    bytes 2 32 ++ bytes 2 16 ++ bytes 4 7 ++ (1 ∷ 7 ∷ 0 ∷ 0 ∷ []) ++ bytes 4 1500 ++ bytes 4 1500 ++ bytes 4 30 ++ bytes 4 0 ++ bytes 4 20
+    ++ bytes 2 32 ++ bytes 2 17 ++ bytes 4 7 ++ (1 ∷ 7 ∷ 1 ∷ 0 ∷ []) ++ bytes 4 1500 ++ bytes 4 30 ++ bytes 4 0 ++ (90 ∷ 88 ∷ 57 ∷ 48 ∷ []) ++ (65 ∷ 66 ∷ 49 ∷ 50 ∷ [])
+    ++ bytes 2 32 ++ bytes 2 17 ++ bytes 4 7 ++ (1 ∷ 7 ∷ 2 ∷ 0 ∷ []) ++ bytes 4 1500 ++ bytes 4 30 ++ bytes 4 0 ++ (65 ∷ 66 ∷ 49 ∷ 50 ∷ []) ++ (90 ∷ 88 ∷ 57 ∷ 48 ∷ [])
+
+-- A sheet of the three is ruled: 96 bytes for the first case, the refusal record for the second, 96 bytes for the third.
+pub good-sheet : sheetOf (goodCase ++ badCase ++ openingCase) 288
+    ≡ (record { refusal = 0; written = 204; ruled = 2; refused = 1 }, goodAnswer ++ badAnswer ++ openingAnswer)
+unfolding sheetOf sheetRefusalOf wholeCases row entryBytes refusalBytes ruledOne ruledIn caseAt readingOf refused refusalOf headOk zerosOk listsOk codesOk codeOk codeByteOk pricesOk quotesPriced countsOk timesOk limitsOk inRange numberAt factsOf tradeOf marketOf requestOf partyAt settlementOf priceOf momentOf sideOf kindOf dayOf agreementOf flagOf bandOf inError movedBy obviousAdjustmentOf wayOf obviousOpen openingOpen catastrophicOpen theoryOf heededOf inTime mayNullify openingTested openingStopped obviousAct openingAct actOf ruledAt ruledOn ruledBy rulingOf rulingRecord shows shownCode noticeRecord answerRecords answerOf
+good-sheet = refl
