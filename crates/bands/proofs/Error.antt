@@ -1,4 +1,4 @@
--- The laws that the counter relies on (01, "Laws the counter relies on"), of any sound table.
+-- The laws that the counter relies on (RULE R12.1, R12.2), of any sound table.
 use Prim.Native.Nat.{ℕ, _+_, _≤_}
 use mathlib.Core.Path.{_≡_}
 use mathlib.Core.Bool.{true}

@@ -1,3 +1,4 @@
+pub mod Rows
 pub mod Sound
 pub mod Error
 pub mod Exact

@@ -1,4 +1,4 @@
--- Where a price lies (01, "Laws the counter relies on").
+-- Where a price lies (RULE R12.2).
 use Prim.Native.Nat.{_+_, _≤_, min, max}
 use mathlib.Core.Path.{_≡_}
 use Rattle.bands.specs.Words.{Mills, Side, Buy, Sell}

@@ -1,4 +1,4 @@
--- What the laws ask of a table, whatever its rows: at every TP the catastrophic minimum is at least the obvious one and at
+-- What the laws (RULE R12.1, R12.2) ask of a table, whatever its rows: at every TP the catastrophic minimum is at least the obvious one and at
 -- least its own adjustment, and the obvious minimum at least the obvious adjustment.
 use Prim.Native.Nat.{_≤_}
 use Rattle.bands.specs.Words.{Mills, Band}

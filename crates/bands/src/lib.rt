@@ -16,11 +16,25 @@ pub struct Band {
     pub adjustment: Mills,
 }
 
-// The table, in mills: a row for each line of the page.
+// The highest TP that each row serves, but for the last. A constant each: a test that names a row's field builds the whole row first, and
+// the proof follows it.
+const TOP_BELOW_2: u32 = 1999;
+
+const TOP_TO_5: u32 = 5000;
+
+const TOP_TO_10: u32 = 10000;
+
+const TOP_TO_20: u32 = 20000;
+
+const TOP_TO_50: u32 = 50000;
+
+const TOP_TO_100: u32 = 100000;
+
+// The table, in mills: a row for each line of the page (RULE R6.2).
 
 // TP below $2
 const BELOW_2: Band = Band {
-    top: Mills(1999),
+    top: Mills(TOP_BELOW_2),
     obvious: Mills(250),
     catastrophic: Mills(1000),
     adjustment: Mills(1000),
@@ -28,7 +42,7 @@ const BELOW_2: Band = Band {
 
 // 2 to 5
 const TO_5: Band = Band {
-    top: Mills(5000),
+    top: Mills(TOP_TO_5),
     obvious: Mills(400),
     catastrophic: Mills(2000),
     adjustment: Mills(2000),
@@ -36,7 +50,7 @@ const TO_5: Band = Band {
 
 // above 5 to 10
 const TO_10: Band = Band {
-    top: Mills(10000),
+    top: Mills(TOP_TO_10),
     obvious: Mills(500),
     catastrophic: Mills(3000),
     adjustment: Mills(3000),
@@ -44,7 +58,7 @@ const TO_10: Band = Band {
 
 // above 10 to 20
 const TO_20: Band = Band {
-    top: Mills(20000),
+    top: Mills(TOP_TO_20),
     obvious: Mills(800),
     catastrophic: Mills(5000),
     adjustment: Mills(5000),
@@ -52,7 +66,7 @@ const TO_20: Band = Band {
 
 // above 20 to 50
 const TO_50: Band = Band {
-    top: Mills(50000),
+    top: Mills(TOP_TO_50),
     obvious: Mills(1000),
     catastrophic: Mills(7000),
     adjustment: Mills(7000),
@@ -60,7 +74,7 @@ const TO_50: Band = Band {
 
 // above 50 to 100
 const TO_100: Band = Band {
-    top: Mills(100000),
+    top: Mills(TOP_TO_100),
     obvious: Mills(1000),
     catastrophic: Mills(10000),
     adjustment: Mills(10000),
@@ -78,22 +92,22 @@ const ABOVE_100: Band = Band {
 pub fn band_of(tp: Mills) -> Band
     ensures { λ r. ⌜ r ≡ bandOf tp ⌝ }
 {
-    if tp.0 <= BELOW_2.top.0 {
+    if tp.0 <= TOP_BELOW_2 {
         return BELOW_2;
     }
-    if tp.0 <= TO_5.top.0 {
+    if tp.0 <= TOP_TO_5 {
         return TO_5;
     }
-    if tp.0 <= TO_10.top.0 {
+    if tp.0 <= TOP_TO_10 {
         return TO_10;
     }
-    if tp.0 <= TO_20.top.0 {
+    if tp.0 <= TOP_TO_20 {
         return TO_20;
     }
-    if tp.0 <= TO_50.top.0 {
+    if tp.0 <= TOP_TO_50 {
         return TO_50;
     }
-    if tp.0 <= TO_100.top.0 {
+    if tp.0 <= TOP_TO_100 {
         return TO_100;
     }
     ABOVE_100

@@ -1,10 +1,9 @@
 // Records brought to the desk, good and damaged, and what they get: run and compared with `stdout`, which was
-// worked out by hand from document 01 (see docs/RULEBOOK.md). Each line names the record and gives its number, 0 where it is accepted.
+// worked out by hand from document 01 (docs/RULE.md, docs/RULEBOOK.md). Each line names the record and gives its number, 0 where it is accepted.
 ghost use Prim.Native.Nat.{_+_, _≤_, _<_};
 use facts::Contracts;
 use facts::Facts;
 use facts::Mills;
-use facts::Trade;
 use libc::STDOUT_FILENO;
 use specimen::byte;
 use specimen::good;
@@ -16,28 +15,12 @@ const NONE: u32 = 4294967295;
 // Facts that no reading gives: the good record's with another execution price and number of contracts.
 fn facts_with(price: Mills, contracts: Contracts) -> Facts {
     let case = good();
-    let reading = cases::read_case(&case);
-    let f = reading.facts;
-    let trade = f.trade;
-    let executed = trade.executed;
-    let market = f.market;
-    let request = f.request;
-    let buyer = f.buyer;
-    let seller = f.seller;
-    let settlement = f.settlement;
-    Facts {
-        trade: Trade {
-            number: trade.number,
-            price: price,
-            contracts: contracts,
-            executed: executed,
-        },
-        market: market,
-        request: request,
-        buyer: buyer,
-        seller: seller,
-        settlement: settlement,
-    }
+    let mut f = cases::read_case(&case).facts;
+    let mut trade = f.trade;
+    trade.price = price;
+    trade.contracts = contracts;
+    f.trade = trade;
+    f
 }
 
 // ---- a line each
@@ -92,21 +75,29 @@ fn write_into(f: Facts, room: u8, out: &mut [u8]) -> u8 {
     255
 }
 
-// Whether the record now stands at the start of the buffer, and whether the bytes behind it are as they were.
-fn standing(out: &[u8], case: [u8; 88]) {
+fn say_untouched(out: &[u8]) {
     let fresh = [238u8; 96];
     say_which(check::same(out, &fresh), b", untouched", b"");
+}
+
+fn say_written(out: &[u8], case: &[u8]) {
+    say_which(check::same(out, case), b", written", b", not written");
+}
+
+fn say_kept(behind: &[u8]) {
+    say_which(
+        check::same(behind, b"\xee\xee\xee\xee\xee\xee\xee\xee"),
+        b", kept behind it\n",
+        b", changed behind it\n",
+    );
+}
+
+// Whether the record now stands at the start of the buffer, and whether the bytes behind it are as they were.
+fn standing(out: &[u8], case: [u8; 88]) {
+    say_untouched(out);
     if 88 <= out.len() {
-        say_which(
-            check::same(&out[0..88], &case),
-            b", written",
-            b", not written",
-        );
-        say_which(
-            check::same(&out[88..], b"\xee\xee\xee\xee\xee\xee\xee\xee"),
-            b", kept behind it\n",
-            b", changed behind it\n",
-        );
+        say_written(&out[0..88], &case);
+        say_kept(&out[88..]);
     }
 }
 
@@ -118,11 +109,17 @@ fn writing(name: &[u8], f: Facts, room: u8, case: [u8; 88]) {
 
 // ---- read
 
+fn cut(case: &[u8]) {
+    reading_of(b"good", case);
+    if 87 <= case.len() {
+        reading_of(b"no byte at all", &case[0..0]);
+        reading_of(b"87 bytes", &case[0..87]);
+    }
+}
+
 fn lengths() {
     let case = good();
-    reading_of(b"good", &case);
-    reading_of(b"no byte at all", &case[0..0]);
-    reading_of(b"87 bytes", &case[0..87]);
+    cut(&case);
 }
 
 fn too_long() {

@@ -1,36 +1,83 @@
 -- Each row serves the prices that no row before it does.
-use borrow.Author.Tests.{le-leb, lt-leb}
+use mathlib.Core.Path.{refl}
 use Rattle.bands.specs.Table.{bandOf}
+use Rattle.bands.proofs.Rows.{serves, passed}
 use Rattle.bands.proofs.band_of.Statement.{statement}
 use Rattle.bands.proofs.band_of.Tie as tie
 
 returns : tie.Need-returns
 unfolding bandOf
-returns c = simp (le-leb _ _ (c .if1 .taken))
+returns c = serves _ _ _ _ (c .if1 .taken)
 
 returns-2 : tie.Need-returns-2
 unfolding bandOf
-returns-2 c = simp (le-leb _ _ (c .if2 .taken), lt-leb _ _ (c .before .before .before .if1 .left))
+returns-2 c =
+    let c1 = c .before .before in
+    passed _ _ _ _ _ (c1 .if1 .left)
+    (serves _ _ _ _ (c .if2 .taken))
 
 returns-3 : tie.Need-returns-3
 unfolding bandOf
-returns-3 c = simp (le-leb _ _ (c .if3 .taken), lt-leb _ _ (c .before .before .before .if2 .left), lt-leb _ _ (c .before .before .before .before .before .before .if1 .left))
+returns-3 c =
+    let c2 = c .before .before in
+    let c1 = c2 .before .before in
+    passed _ _ _ _ _ (c1 .if1 .left)
+    (passed _ _ _ _ _ (c2 .if2 .left)
+    (serves _ _ _ _ (c .if3 .taken)))
 
 returns-4 : tie.Need-returns-4
 unfolding bandOf
-returns-4 c = simp (le-leb _ _ (c .if4 .taken), lt-leb _ _ (c .before .before .before .if3 .left), lt-leb _ _ (c .before .before .before .before .before .before .if2 .left), lt-leb _ _ (c .before .before .before .before .before .before .before .before .before .if1 .left))
+returns-4 c =
+    let c3 = c .before .before in
+    let c2 = c3 .before .before in
+    let c1 = c2 .before .before in
+    passed _ _ _ _ _ (c1 .if1 .left)
+    (passed _ _ _ _ _ (c2 .if2 .left)
+    (passed _ _ _ _ _ (c3 .if3 .left)
+    (serves _ _ _ _ (c .if4 .taken))))
 
 returns-5 : tie.Need-returns-5
 unfolding bandOf
-returns-5 c = simp (le-leb _ _ (c .if5 .taken), lt-leb _ _ (c .before .before .before .if4 .left), lt-leb _ _ (c .before .before .before .before .before .before .if3 .left), lt-leb _ _ (c .before .before .before .before .before .before .before .before .before .if2 .left), lt-leb _ _ (c .before .before .before .before .before .before .before .before .before .before .before .before .if1 .left))
+returns-5 c =
+    let c4 = c .before .before in
+    let c3 = c4 .before .before in
+    let c2 = c3 .before .before in
+    let c1 = c2 .before .before in
+    passed _ _ _ _ _ (c1 .if1 .left)
+    (passed _ _ _ _ _ (c2 .if2 .left)
+    (passed _ _ _ _ _ (c3 .if3 .left)
+    (passed _ _ _ _ _ (c4 .if4 .left)
+    (serves _ _ _ _ (c .if5 .taken)))))
 
 returns-6 : tie.Need-returns-6
 unfolding bandOf
-returns-6 c = simp (le-leb _ _ (c .if6 .taken), lt-leb _ _ (c .before .before .before .if5 .left), lt-leb _ _ (c .before .before .before .before .before .before .if4 .left), lt-leb _ _ (c .before .before .before .before .before .before .before .before .before .if3 .left), lt-leb _ _ (c .before .before .before .before .before .before .before .before .before .before .before .before .if2 .left), lt-leb _ _ (c .before .before .before .before .before .before .before .before .before .before .before .before .before .before .before .if1 .left))
+returns-6 c =
+    let c5 = c .before .before in
+    let c4 = c5 .before .before in
+    let c3 = c4 .before .before in
+    let c2 = c3 .before .before in
+    let c1 = c2 .before .before in
+    passed _ _ _ _ _ (c1 .if1 .left)
+    (passed _ _ _ _ _ (c2 .if2 .left)
+    (passed _ _ _ _ _ (c3 .if3 .left)
+    (passed _ _ _ _ _ (c4 .if4 .left)
+    (passed _ _ _ _ _ (c5 .if5 .left)
+    (serves _ _ _ _ (c .if6 .taken))))))
 
 returns-7 : tie.Need-returns-7
 unfolding bandOf
-returns-7 c = simp (lt-leb _ _ (c .if6 .left), lt-leb _ _ (c .before .before .before .if5 .left), lt-leb _ _ (c .before .before .before .before .before .before .if4 .left), lt-leb _ _ (c .before .before .before .before .before .before .before .before .before .if3 .left), lt-leb _ _ (c .before .before .before .before .before .before .before .before .before .before .before .before .if2 .left), lt-leb _ _ (c .before .before .before .before .before .before .before .before .before .before .before .before .before .before .before .if1 .left))
+returns-7 c =
+    let c5 = c .before .before in
+    let c4 = c5 .before .before in
+    let c3 = c4 .before .before in
+    let c2 = c3 .before .before in
+    let c1 = c2 .before .before in
+    passed _ _ _ _ _ (c1 .if1 .left)
+    (passed _ _ _ _ _ (c2 .if2 .left)
+    (passed _ _ _ _ _ (c3 .if3 .left)
+    (passed _ _ _ _ _ (c4 .if4 .left)
+    (passed _ _ _ _ _ (c5 .if5 .left)
+    (passed _ _ _ _ _ (c .if6 .left) refl)))))
 
 pub band-of-spec : {M : Type 1} → statement M
 band-of-spec =
