@@ -1,9 +1,9 @@
-/* The desk: a trade that a member calls erroneous, ruled by the page (document 01). The functions stand in libdesk.a, which
+/* The desk: a trade that a member calls erroneous, ruled by the page (docs/RULE.md). The functions stand in libdesk.a, which
  * `rt staticlib desk` writes; they are proved to keep what is said here.
  *
  * They ask nothing of the caller but valid pointers, each to as many bytes as its length says, and buffers that do not
- * overlap. Any bytes may be given: what is not a case or a sheet gets the number of the first test that it fails. They keep
- * no state and allocate nothing. */
+ * overlap. Beside a length of 0 the pointer may be NULL. Any bytes may be given: what is not a case or a sheet gets the
+ * number of the first test that it fails. They keep no state and allocate nothing. */
 #ifndef DESK_H
 #define DESK_H
 
@@ -14,11 +14,151 @@
 extern "C" {
 #endif
 
+/* ---- Lengths */
+
 #define DESK_CASE_BYTES 88u     /* a case record */
+#define DESK_RULING_BYTES 32u   /* a ruling */
+#define DESK_NOTICE_BYTES 32u   /* a notice */
 #define DESK_ANSWER_BYTES 96u   /* a ruling and two notices */
 #define DESK_REFUSED_BYTES 12u  /* a refused case of a sheet */
+#define DESK_SHEET_CASES 600u   /* the most cases of a sheet */
 #define DESK_SHEET_BYTES 52800u /* the longest sheet: 600 cases */
 #define DESK_TEXT_BYTES 65536u  /* room for the text of any sheet */
+
+/* ---- All records. Every number stands lowest byte first. DESK_.._AT_.. is where a field begins; its comment says how long it
+ * is and what it holds. */
+
+#define DESK_AT_LENGTH 0u /* 2: the record's length */
+#define DESK_AT_KIND 2u   /* 2: its kind */
+
+#define DESK_KIND_CASE 1u
+#define DESK_KIND_RULING 16u
+#define DESK_KIND_NOTICE 17u
+#define DESK_KIND_REFUSED 18u
+
+#define DESK_NONE 4294967295u /* the mark "none", of a price and of an acceptance */
+
+/* ---- The case record. Prices are in mills ($1 is 1,000), times in seconds after midnight. */
+
+#define DESK_CASE_AT_TRADE 4u           /* 4: trade number, any */
+#define DESK_CASE_AT_EXECUTION 8u       /* 4: execution price, never none */
+#define DESK_CASE_AT_CONTRACTS 12u      /* 4: contracts, 1 to DESK_MOST_CONTRACTS */
+#define DESK_CASE_AT_EXECUTED 16u       /* 4: execution time, 0 to DESK_LAST_SECOND */
+#define DESK_CASE_AT_BID 20u            /* 4: best bid, or none */
+#define DESK_CASE_AT_OFFER 24u          /* 4: best offer, or none */
+#define DESK_CASE_AT_BID_SIZE 28u       /* 4: bid size, 0 to DESK_MOST_CONTRACTS; 0 if no bid, 1 or more if the bid is above 0 */
+#define DESK_CASE_AT_OFFER_SIZE 32u     /* 4: offer size, likewise */
+#define DESK_CASE_AT_ZERO 36u           /* 4: zero */
+#define DESK_CASE_AT_OFFICIAL 40u       /* 4: official's price, or none */
+#define DESK_CASE_AT_SIDE 44u           /* 1: side in error, DESK_BUY or DESK_SELL */
+#define DESK_CASE_AT_OPENING 45u        /* 1: 1 on the opening, else 0 */
+#define DESK_CASE_AT_EXPIRY 46u         /* 1: 1 if the same-day 5:00 pm expiry deadline holds, else 0 */
+#define DESK_CASE_AT_PANEL 47u          /* 1: 1 if the panel has already decided, else 0 */
+#define DESK_CASE_AT_BUYER_CODE 48u     /* 4: buyer's member code, each byte 'A' to 'Z' or '0' to '9' */
+#define DESK_CASE_AT_BUYER_LIMIT 52u    /* 4: buyer's limit, or none */
+#define DESK_CASE_AT_SELLER_CODE 56u    /* 4: seller's member code */
+#define DESK_CASE_AT_SELLER_LIMIT 60u   /* 4: seller's limit, or none */
+#define DESK_CASE_AT_BUYER_KIND 64u     /* 1: DESK_CUSTOMER, DESK_MARKET_MAKER or DESK_OTHER */
+#define DESK_CASE_AT_SELLER_KIND 65u    /* 1: the same of the seller */
+#define DESK_CASE_AT_DAY 66u            /* 1: filing day, DESK_TRADE_DATE, DESK_NEXT_DAY or DESK_LATER */
+#define DESK_CASE_AT_AGREEMENT 67u      /* 1: DESK_AGREED_NOTHING, DESK_AGREED_PRICE or DESK_AGREED_NULLIFY */
+#define DESK_CASE_AT_AGREED_PRICE 68u   /* 4: a price exactly with DESK_AGREED_PRICE, else none */
+#define DESK_CASE_AT_FILED 72u          /* 4: filing time of that day, 0 to DESK_LAST_SECOND */
+#define DESK_CASE_AT_AGREED_AFTER 76u   /* 4: agreement, seconds after notice, 0 to DESK_MOST_AFTER; 0 if none was made */
+#define DESK_CASE_AT_ACCEPTED_AFTER 80u /* 4: a Customer's acceptance, seconds after notice, 0 to DESK_MOST_AFTER, or none */
+#define DESK_CASE_AT_LAST_ZERO 84u      /* 4: zero */
+
+#define DESK_HIGHEST_PRICE 9999999u
+#define DESK_MOST_CONTRACTS 1000000u
+#define DESK_LAST_SECOND 86399u
+#define DESK_MOST_AFTER 86400u
+
+#define DESK_BUY 1u
+#define DESK_SELL 2u
+
+#define DESK_CUSTOMER 1u
+#define DESK_MARKET_MAKER 2u
+#define DESK_OTHER 3u
+
+#define DESK_TRADE_DATE 0u
+#define DESK_NEXT_DAY 1u
+#define DESK_LATER 2u
+
+#define DESK_AGREED_NOTHING 0u
+#define DESK_AGREED_PRICE 1u
+#define DESK_AGREED_NULLIFY 2u
+
+/* ---- The answer to a ruled case: three records of 32 bytes. */
+
+#define DESK_ANSWER_AT_RULING 0u
+#define DESK_ANSWER_AT_BUYER 32u  /* the buyer's notice */
+#define DESK_ANSWER_AT_SELLER 64u /* the seller's notice */
+
+#define DESK_RULING_AT_TRADE 4u      /* 4: trade number */
+#define DESK_RULING_AT_OUTCOME 8u    /* 1: DESK_NO_RELIEF to DESK_WAITING */
+#define DESK_RULING_AT_REASON 9u     /* 1: DESK_REASON_.. */
+#define DESK_RULING_AT_ZERO 10u      /* 2: zero */
+#define DESK_RULING_AT_TP 12u        /* 4: theoretical price, or none (none also for reasons 2 and 3) */
+#define DESK_RULING_AT_NEW_PRICE 16u /* 4: none unless adjusted */
+#define DESK_RULING_AT_ADJUSTED 20u  /* 4: contracts adjusted */
+#define DESK_RULING_AT_NULLIFIED 24u /* 4: contracts nullified */
+#define DESK_RULING_AT_STANDING 28u  /* 4: contracts that stand */
+
+#define DESK_NOTICE_AT_TRADE 4u       /* 4: trade number */
+#define DESK_NOTICE_AT_OUTCOME 8u     /* 1: as in the ruling */
+#define DESK_NOTICE_AT_REASON 9u      /* 1: as in the ruling */
+#define DESK_NOTICE_AT_RECIPIENT 10u  /* 1: DESK_TO_BUYER or DESK_TO_SELLER */
+#define DESK_NOTICE_AT_ZERO 11u       /* 1: zero */
+#define DESK_NOTICE_AT_NEW_PRICE 12u  /* 4: as in the ruling */
+#define DESK_NOTICE_AT_ADJUSTED 16u   /* 4: as in the ruling */
+#define DESK_NOTICE_AT_NULLIFIED 20u  /* 4: as in the ruling */
+#define DESK_NOTICE_AT_OTHER_CODE 24u /* 4: the other party's code if adjusted or nullified, else zeros */
+#define DESK_NOTICE_AT_OWN_CODE 28u   /* 4: the recipient's code */
+
+#define DESK_TO_BUYER 1u
+#define DESK_TO_SELLER 2u
+
+#define DESK_NO_RELIEF 0u
+#define DESK_ADJUSTED 1u
+#define DESK_NULLIFIED 2u
+#define DESK_WAITING 3u
+
+#define DESK_REASON_NO_ERROR 1u                   /* no relief: execution is not off TP by the minimum, in the side's direction */
+#define DESK_REASON_LATE 2u                       /* no relief: no way is open */
+#define DESK_REASON_PANEL_DECIDED 3u              /* no relief: catastrophic way, and the panel has already decided */
+#define DESK_REASON_CUSTOMERS_LIMIT 4u            /* no relief: opening, other a Market Maker, TP violates the Customer's limit */
+#define DESK_REASON_OTHERS_LIMIT 5u               /* no relief: opening, other no Market Maker, TP violates the other's limit */
+#define DESK_REASON_OBVIOUS 6u                    /* adjusted: obvious, no Customer */
+#define DESK_REASON_OPENING 7u                    /* adjusted: opening, to TP */
+#define DESK_REASON_CATASTROPHIC 8u               /* adjusted: catastrophic, no Customer's limit violated */
+#define DESK_REASON_CATASTROPHIC_ACCEPTED 9u      /* adjusted: past a Customer's limit, and accepted in time */
+#define DESK_REASON_AGREED_PRICE 10u              /* adjusted: to an agreed price */
+#define DESK_REASON_OBVIOUS_WITH_CUSTOMER 11u     /* nullified: obvious, with a Customer */
+#define DESK_REASON_CATASTROPHIC_NOT_ACCEPTED 12u /* nullified: past a Customer's limit, and not accepted in time */
+#define DESK_REASON_AGREED_NULLIFICATION 13u      /* nullified: agreed */
+#define DESK_REASON_NO_PRICE 14u                  /* waiting: neither a quote nor an official's price */
+
+/* ---- The answer to a refused case of a sheet, DESK_REFUSED_BYTES long. */
+
+#define DESK_REFUSED_AT_INDEX 4u  /* 4: which case of the sheet, from 0 */
+#define DESK_REFUSED_AT_NUMBER 8u /* 2: DESK_REFUSAL_.., 2 to 9 */
+#define DESK_REFUSED_AT_ZERO 10u  /* 2: zero */
+
+/* ---- The numbers given back instead of a ruling: each of the first test that fails. 0 is none of them. */
+
+#define DESK_REFUSAL_CASE_LENGTH 1u        /* the case isn't 88 bytes long */
+#define DESK_REFUSAL_LENGTH_OR_KIND 2u     /* its length or kind is another */
+#define DESK_REFUSAL_ZERO_OR_CODED_BYTE 3u /* a zero byte isn't zero, or a coded byte is not in its list */
+#define DESK_REFUSAL_MEMBER_CODE 4u        /* a byte of a member code is not allowed */
+#define DESK_REFUSAL_PRICE 5u              /* a price is above DESK_HIGHEST_PRICE and isn't a permitted none */
+#define DESK_REFUSAL_CONTRACTS_OR_SIZE 6u  /* contracts or a size break their rule */
+#define DESK_REFUSAL_TIME 7u               /* a time or count of seconds is out of range, or on day 0 filed before executed */
+#define DESK_REFUSAL_LIMIT 8u              /* the execution price is above the buyer's limit or below the seller's */
+#define DESK_REFUSAL_AGREEMENT 9u          /* the agreement's fields contradict byte 67 */
+#define DESK_REFUSAL_SHEET_LENGTH 10u      /* the sheet isn't a whole number of cases, or has more than 600 */
+#define DESK_REFUSAL_ANSWER_BUFFER 11u     /* the answer buffer is under 96 bytes (case) or 96 per case (sheet) */
+
+/* ---- The functions */
 
 /* What ruling a sheet gives back. If the sheet is refused whole, `refusal` is the number (10 or 11) and the rest is 0. */
 struct desk_sheet {

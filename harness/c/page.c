@@ -1,49 +1,40 @@
-/* The desk called from C: the page's own sheet of three cases is ruled, its counts are checked and its rulings printed. */
+/* The desk called from C: the page's own sheet of three cases is ruled, its answers are read and its rulings printed. It ends
+ * with 1 where an answer is another, with 2 where the text cannot be written. */
 
 #include <stdio.h>
 #include <string.h>
 
 #include "desk.h"
+#include "numbers.h"
 
 #define CASES 3
-#define NONE 4294967295u
 
-static void put_u16(uint8_t *at, uint16_t number)
-{
-    at[0] = (uint8_t)number;
-    at[1] = (uint8_t)(number >> 8);
-}
-
-static void put_u32(uint8_t *at, uint32_t number)
-{
-    put_u16(at, (uint16_t)number);
-    put_u16(at + 2, (uint16_t)(number >> 16));
-}
-
-/* Two Market Makers, executed at 34,200 and filed on day 0; no quote, limit, official's price, agreement or acceptance. */
+/* Two Market Makers, executed at 34,200 and filed on the trade date; no quote, limit, official's price, agreement or acceptance. */
 static void put_case(uint8_t *record, uint32_t trade, uint32_t execution, uint32_t contracts, uint8_t side,
                      uint32_t filed_after)
 {
     memset(record, 0, DESK_CASE_BYTES);
-    put_u16(record, DESK_CASE_BYTES);
-    put_u16(record + 2, 1);
-    put_u32(record + 4, trade);
-    put_u32(record + 8, execution);
-    put_u32(record + 12, contracts);
-    put_u32(record + 16, 34200);
-    put_u32(record + 20, NONE);
-    put_u32(record + 24, NONE);
-    put_u32(record + 40, NONE);
-    record[44] = side;
-    memcpy(record + 48, "BUY1", 4);
-    put_u32(record + 52, NONE);
-    memcpy(record + 56, "SEL1", 4);
-    put_u32(record + 60, NONE);
-    record[64] = 2;
-    record[65] = 2;
-    put_u32(record + 68, NONE);
-    put_u32(record + 72, 34200 + filed_after);
-    put_u32(record + 80, NONE);
+    put_u16(record + DESK_AT_LENGTH, DESK_CASE_BYTES);
+    put_u16(record + DESK_AT_KIND, DESK_KIND_CASE);
+    put_u32(record + DESK_CASE_AT_TRADE, trade);
+    put_u32(record + DESK_CASE_AT_EXECUTION, execution);
+    put_u32(record + DESK_CASE_AT_CONTRACTS, contracts);
+    put_u32(record + DESK_CASE_AT_EXECUTED, 34200);
+    put_u32(record + DESK_CASE_AT_BID, DESK_NONE);
+    put_u32(record + DESK_CASE_AT_OFFER, DESK_NONE);
+    put_u32(record + DESK_CASE_AT_OFFICIAL, DESK_NONE);
+    record[DESK_CASE_AT_SIDE] = side;
+    memcpy(record + DESK_CASE_AT_BUYER_CODE, "BUY1", 4);
+    put_u32(record + DESK_CASE_AT_BUYER_LIMIT, DESK_NONE);
+    memcpy(record + DESK_CASE_AT_SELLER_CODE, "SEL1", 4);
+    put_u32(record + DESK_CASE_AT_SELLER_LIMIT, DESK_NONE);
+    record[DESK_CASE_AT_BUYER_KIND] = DESK_MARKET_MAKER;
+    record[DESK_CASE_AT_SELLER_KIND] = DESK_MARKET_MAKER;
+    record[DESK_CASE_AT_DAY] = DESK_TRADE_DATE;
+    record[DESK_CASE_AT_AGREEMENT] = DESK_AGREED_NOTHING;
+    put_u32(record + DESK_CASE_AT_AGREED_PRICE, DESK_NONE);
+    put_u32(record + DESK_CASE_AT_FILED, 34200 + filed_after);
+    put_u32(record + DESK_CASE_AT_ACCEPTED_AFTER, DESK_NONE);
 }
 
 static void put_sheet(uint8_t sheet[CASES * DESK_CASE_BYTES])
@@ -53,47 +44,101 @@ static void put_sheet(uint8_t sheet[CASES * DESK_CASE_BYTES])
     uint8_t *third = second + DESK_CASE_BYTES;
 
     /* Trade 1: a buy of 10 at 2.000, offer 1.000, filed after 120 s. */
-    put_case(first, 1, 2000, 10, 1, 120);
-    put_u32(first + 24, 1000);
-    put_u32(first + 32, 10);
+    put_case(first, 1, 2000, 10, DESK_BUY, 120);
+    put_u32(first + DESK_CASE_AT_OFFER, 1000);
+    put_u32(first + DESK_CASE_AT_OFFER_SIZE, 10);
 
     /* Trade 2: on the opening a Customer sells 30 at 1.000, bid 2.000 of size 20, filed after 1,800 s. */
-    put_case(second, 2, 1000, 30, 2, 1800);
-    put_u32(second + 20, 2000);
-    put_u32(second + 28, 20);
-    second[45] = 1;
-    second[65] = 1;
+    put_case(second, 2, 1000, 30, DESK_SELL, 1800);
+    put_u32(second + DESK_CASE_AT_BID, 2000);
+    put_u32(second + DESK_CASE_AT_BID_SIZE, 20);
+    second[DESK_CASE_AT_OPENING] = 1;
+    second[DESK_CASE_AT_SELLER_KIND] = DESK_CUSTOMER;
 
     /* A case of 0 contracts. */
-    put_case(third, 3, 2000, 0, 1, 120);
+    put_case(third, 3, 2000, 0, DESK_BUY, 120);
+}
+
+static int begins(const uint8_t *record, uint32_t length, uint32_t kind)
+{
+    return get_u16(record + DESK_AT_LENGTH) == length && get_u16(record + DESK_AT_KIND) == kind;
+}
+
+/* Trade 2: adjusted to 2.000, 20 of its 30 contracts; 10 stand. */
+static int is_second_ruling(const uint8_t *ruling)
+{
+    return begins(ruling, DESK_RULING_BYTES, DESK_KIND_RULING) && get_u32(ruling + DESK_RULING_AT_TRADE) == 2 &&
+           ruling[DESK_RULING_AT_OUTCOME] == DESK_ADJUSTED && ruling[DESK_RULING_AT_REASON] == DESK_REASON_OPENING &&
+           get_u16(ruling + DESK_RULING_AT_ZERO) == 0 && get_u32(ruling + DESK_RULING_AT_TP) == 2000 &&
+           get_u32(ruling + DESK_RULING_AT_NEW_PRICE) == 2000 && get_u32(ruling + DESK_RULING_AT_ADJUSTED) == 20 &&
+           get_u32(ruling + DESK_RULING_AT_NULLIFIED) == 0 && get_u32(ruling + DESK_RULING_AT_STANDING) == 10;
+}
+
+static int is_second_notice(const uint8_t *notice, uint8_t recipient, const char *own, const char *other)
+{
+    return begins(notice, DESK_NOTICE_BYTES, DESK_KIND_NOTICE) && get_u32(notice + DESK_NOTICE_AT_TRADE) == 2 &&
+           notice[DESK_NOTICE_AT_OUTCOME] == DESK_ADJUSTED && notice[DESK_NOTICE_AT_REASON] == DESK_REASON_OPENING &&
+           notice[DESK_NOTICE_AT_RECIPIENT] == recipient && notice[DESK_NOTICE_AT_ZERO] == 0 &&
+           get_u32(notice + DESK_NOTICE_AT_NEW_PRICE) == 2000 && get_u32(notice + DESK_NOTICE_AT_ADJUSTED) == 20 &&
+           get_u32(notice + DESK_NOTICE_AT_NULLIFIED) == 0 && memcmp(notice + DESK_NOTICE_AT_OTHER_CODE, other, 4) == 0 &&
+           memcmp(notice + DESK_NOTICE_AT_OWN_CODE, own, 4) == 0;
+}
+
+static int is_second_answer(const uint8_t *answer)
+{
+    return is_second_ruling(answer + DESK_ANSWER_AT_RULING) &&
+           is_second_notice(answer + DESK_ANSWER_AT_BUYER, DESK_TO_BUYER, "BUY1", "SEL1") &&
+           is_second_notice(answer + DESK_ANSWER_AT_SELLER, DESK_TO_SELLER, "SEL1", "BUY1");
+}
+
+static int is_third_refused(const uint8_t *refused)
+{
+    return begins(refused, DESK_REFUSED_BYTES, DESK_KIND_REFUSED) && get_u32(refused + DESK_REFUSED_AT_INDEX) == 2 &&
+           get_u16(refused + DESK_REFUSED_AT_NUMBER) == DESK_REFUSAL_CONTRACTS_OR_SIZE &&
+           get_u16(refused + DESK_REFUSED_AT_ZERO) == 0;
+}
+
+/* What is wrong with the answers to the sheet; NULL if nothing is. */
+static const char *fault(const uint8_t sheet[CASES * DESK_CASE_BYTES])
+{
+    uint8_t out[CASES * DESK_ANSWER_BYTES];
+    uint8_t answer[DESK_ANSWER_BYTES];
+    struct desk_sheet counts;
+
+    if (desk_check_case(sheet, DESK_CASE_BYTES) != 0 ||
+        desk_check_case(sheet + 2 * DESK_CASE_BYTES, DESK_CASE_BYTES) != DESK_REFUSAL_CONTRACTS_OR_SIZE ||
+        desk_check_case(NULL, 0) != DESK_REFUSAL_CASE_LENGTH)
+        return "desk_check_case: another number";
+    counts = desk_rule_sheet(sheet, CASES * DESK_CASE_BYTES, out, sizeof out);
+    if (counts.refusal != 0 || counts.written != 2 * DESK_ANSWER_BYTES + DESK_REFUSED_BYTES || counts.ruled != 2 ||
+        counts.refused != 1)
+        return "desk_rule_sheet: other counts";
+    if (!is_second_answer(out + DESK_ANSWER_BYTES))
+        return "desk_rule_sheet: another answer to trade 2";
+    if (!is_third_refused(out + 2 * DESK_ANSWER_BYTES))
+        return "desk_rule_sheet: another answer to the case of 0 contracts";
+    if (desk_rule_case(sheet, DESK_CASE_BYTES, answer, sizeof answer) != 0 || memcmp(answer, out, sizeof answer) != 0)
+        return "desk_rule_case: another answer than in the sheet";
+    return NULL;
 }
 
 int main(void)
 {
     static uint8_t text[DESK_TEXT_BYTES];
     uint8_t sheet[CASES * DESK_CASE_BYTES];
-    uint8_t out[CASES * DESK_ANSWER_BYTES];
-    uint8_t answer[DESK_ANSWER_BYTES];
-    struct desk_sheet counts;
+    const char *found;
     size_t length;
 
     put_sheet(sheet);
-    if (desk_check_case(sheet, DESK_CASE_BYTES) != 0 ||
-        desk_check_case(sheet + 2 * DESK_CASE_BYTES, DESK_CASE_BYTES) != 6) {
-        fputs("desk_check_case: another number\n", stderr);
-        return 1;
-    }
-    counts = desk_rule_sheet(sheet, sizeof sheet, out, sizeof out);
-    if (counts.refusal != 0 || counts.written != 2 * DESK_ANSWER_BYTES + DESK_REFUSED_BYTES || counts.ruled != 2 ||
-        counts.refused != 1) {
-        fputs("desk_rule_sheet: other counts\n", stderr);
-        return 1;
-    }
-    if (desk_rule_case(sheet, DESK_CASE_BYTES, answer, sizeof answer) != 0 ||
-        memcmp(answer, out, sizeof answer) != 0) {
-        fputs("desk_rule_case: another answer than in the sheet\n", stderr);
+    found = fault(sheet);
+    if (found) {
+        fprintf(stderr, "%s\n", found);
         return 1;
     }
     length = (size_t)desk_print_sheet(sheet, sizeof sheet, &text);
-    return fwrite(text, 1, length, stdout) == length ? 0 : 1;
+    if (fwrite(text, 1, length, stdout) != length || fflush(stdout) != 0) {
+        fputs("standard output cannot be written\n", stderr);
+        return 2;
+    }
+    return 0;
 }

@@ -1,6 +1,17 @@
 //! The proved desk: the four C functions of `target/staticlib/libdesk.a` (`include/desk.h`) behind
 //! a safe interface. All `unsafe` of the harness is here.
 
+use std::ptr;
+
+/// A case record.
+pub const CASE_BYTES: usize = 88;
+
+/// A ruling and two notices.
+pub const ANSWER_BYTES: usize = 96;
+
+/// The longest sheet: 600 cases.
+pub const SHEET_BYTES: usize = 52_800;
+
 /// The bytes of text that [`print_sheet`] has room for.
 pub const TEXT_BYTES: usize = 65_536;
 
@@ -15,7 +26,7 @@ pub struct DeskSheet {
     pub refused: u64,
 }
 
-extern "C" {
+unsafe extern "C" {
     fn desk_check_case(case: *const u8, len: usize) -> u32;
     fn desk_rule_case(case: *const u8, len: usize, out: *mut u8, out_len: usize) -> u32;
     fn desk_rule_sheet(sheet: *const u8, len: usize, out: *mut u8, out_len: usize) -> DeskSheet;
@@ -47,4 +58,45 @@ pub fn print_sheet(sheet: &[u8], out: &mut [u8; TEXT_BYTES]) -> u64 {
     // SAFETY: the pointer and the length are those of one live slice; `out` is a live array of the
     // declared size, lent exclusively, so the two do not overlap.
     unsafe { desk_print_sheet(sheet.as_ptr(), sheet.len(), out) }
+}
+
+/// The same calls with NULL beside a length of 0, as a C program may make them: Rust's own empty
+/// slices point somewhere.
+pub mod null {
+    use super::*;
+
+    fn pointer(bytes: &[u8]) -> *const u8 {
+        if bytes.is_empty() {
+            ptr::null()
+        } else {
+            bytes.as_ptr()
+        }
+    }
+
+    fn pointer_mut(bytes: &mut [u8]) -> *mut u8 {
+        if bytes.is_empty() {
+            ptr::null_mut()
+        } else {
+            bytes.as_mut_ptr()
+        }
+    }
+
+    // SAFETY, of all four: a pointer and a length are those of one live slice, or NULL and 0, which
+    // `include/desk.h` permits; what is written to is lent exclusively.
+
+    pub fn check_case(case: &[u8]) -> u32 {
+        unsafe { desk_check_case(pointer(case), case.len()) }
+    }
+
+    pub fn rule_case(case: &[u8], out: &mut [u8]) -> u32 {
+        unsafe { desk_rule_case(pointer(case), case.len(), pointer_mut(out), out.len()) }
+    }
+
+    pub fn rule_sheet(sheet: &[u8], out: &mut [u8]) -> DeskSheet {
+        unsafe { desk_rule_sheet(pointer(sheet), sheet.len(), pointer_mut(out), out.len()) }
+    }
+
+    pub fn print_sheet(sheet: &[u8], out: &mut [u8; TEXT_BYTES]) -> u64 {
+        unsafe { desk_print_sheet(pointer(sheet), sheet.len(), out) }
+    }
 }

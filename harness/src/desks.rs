@@ -37,6 +37,31 @@ impl Desk for Proved {
     }
 }
 
+/// The static library, called with NULL wherever a length is 0.
+pub struct ProvedOnNull;
+
+impl Desk for ProvedOnNull {
+    fn name(&self) -> &str {
+        "proved, on NULL"
+    }
+
+    fn check_case(&self, case: &[u8]) -> u32 {
+        desk::null::check_case(case)
+    }
+
+    fn rule_case(&self, case: &[u8], out: &mut [u8]) -> u32 {
+        desk::null::rule_case(case, out)
+    }
+
+    fn rule_sheet(&self, sheet: &[u8], out: &mut [u8]) -> DeskSheet {
+        desk::null::rule_sheet(sheet, out)
+    }
+
+    fn print_sheet(&self, sheet: &[u8], out: &mut [u8; TEXT_BYTES]) -> u64 {
+        desk::null::print_sheet(sheet, out)
+    }
+}
+
 /// Makes `$desk` the desk of the module `$page`: the independent one here, a broken copy of it in
 /// the test of mutants.
 #[macro_export]

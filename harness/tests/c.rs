@@ -1,8 +1,14 @@
-//! The desk from C: `c/page.c` compiles without a warning against `include/desk.h` and prints the
-//! page's five lines. The header is also good C++.
+//! The desk from C: `c/page.c` compiles without a warning against `include/desk.h`, reads the answers
+//! under its names and prints the page's five lines; `c/fields.c` writes every field of a record. The
+//! header's numbers are those of the independent desk, and it is also good C++.
 
+use std::fmt::Debug;
+use std::fs::{self, File};
 use std::path::{Path, PathBuf};
 use std::process::{Command, Output};
+
+use harness::fields::{Fields, NONE};
+use harness::page::{Outcome, Reason, Refusal};
 
 const LINES: &str = "\
 TRADE OUTCOME REASON TP NEW ADJ NUL OLD
@@ -32,17 +38,124 @@ fn run(command: &mut Command) -> Output {
     output
 }
 
-#[test]
-fn the_c_program_prints_the_page_sheet() {
-    let program = PathBuf::from(env!("CARGO_TARGET_TMPDIR")).join("page");
+/// The program of `c/NAME.c`.
+fn compiled(name: &str) -> PathBuf {
+    let program = PathBuf::from(env!("CARGO_TARGET_TMPDIR")).join(name);
     run(compiler()
         .arg("-std=c99")
         .arg("-o")
         .arg(&program)
-        .arg(home().join("c/page.c"))
+        .arg(home().join("c").join(name).with_extension("c"))
         .arg(home().join("../target/staticlib/libdesk.a")));
+    program
+}
+
+#[test]
+fn the_c_program_prints_the_page_sheet() {
+    let program = compiled("page");
     let output = run(&mut Command::new(&program));
     assert_eq!(String::from_utf8_lossy(&output.stdout), LINES);
+    let full = File::options().write(true).open("/dev/full");
+    let unwritten = Command::new(&program)
+        .stdout(full.expect("/dev/full"))
+        .output()
+        .expect("the program starts");
+    assert_eq!(unwritten.stderr, b"standard output cannot be written\n");
+    assert_eq!(unwritten.status.code(), Some(2));
+}
+
+#[test]
+fn the_header_names_every_field_of_a_record() {
+    let expected = Fields {
+        length: 88,
+        kind: 1,
+        trade: 101,
+        execution: 102,
+        contracts: 1_000_000,
+        executed_at: 103,
+        bid: 104,
+        offer: 105,
+        bid_size: 106,
+        offer_size: 107,
+        zero_36: 0,
+        official: 9_999_999,
+        side: 2,
+        opening: 1,
+        expiry: 0,
+        panel: 1,
+        buyer_code: *b"BUY1",
+        buyer_limit: 108,
+        seller_code: *b"SEL1",
+        seller_limit: NONE,
+        buyer_kind: 1,
+        seller_kind: 3,
+        day: 1,
+        agreement: 2,
+        agreed: NONE,
+        filed_at: 86_399,
+        agreed_after: 86_400,
+        accepted_after: 109,
+        zero_84: 0,
+    };
+    let output = run(&mut Command::new(compiled("fields")));
+    let record = output.stdout.try_into().expect("88 bytes");
+    assert_eq!(Fields::decode(&record), expected);
+}
+
+/// Does the header have that number under that name, which is the independent desk's own in C's
+/// spelling?
+fn check_number(prefix: &str, value: impl Debug, number: u32) {
+    let mut name = String::from(prefix);
+    for letter in format!("{value:?}").chars() {
+        if letter.is_uppercase() {
+            name.push('_');
+        }
+        name.push(letter.to_ascii_uppercase());
+    }
+    let header = fs::read_to_string(home().join("../include/desk.h")).expect("the header");
+    let define = format!("\n#define {name} {number}u");
+    assert_eq!(header.matches(&define).count(), 1, "{define}");
+}
+
+#[test]
+fn the_header_numbers_outcomes_reasons_and_refusals_as_the_page() {
+    use Outcome::*;
+    for outcome in [NoRelief, Adjusted, Nullified, Waiting] {
+        check_number("DESK", outcome, outcome as u32);
+    }
+    for reason in [
+        Reason::NoError,
+        Reason::Late,
+        Reason::PanelDecided,
+        Reason::CustomersLimit,
+        Reason::OthersLimit,
+        Reason::Obvious,
+        Reason::Opening,
+        Reason::Catastrophic,
+        Reason::CatastrophicAccepted,
+        Reason::AgreedPrice,
+        Reason::ObviousWithCustomer,
+        Reason::CatastrophicNotAccepted,
+        Reason::AgreedNullification,
+        Reason::NoPrice,
+    ] {
+        check_number("DESK_REASON", reason, reason as u32);
+    }
+    for refusal in [
+        Refusal::CaseLength,
+        Refusal::LengthOrKind,
+        Refusal::ZeroOrCodedByte,
+        Refusal::MemberCode,
+        Refusal::Price,
+        Refusal::ContractsOrSize,
+        Refusal::Time,
+        Refusal::Limit,
+        Refusal::Agreement,
+        Refusal::SheetLength,
+        Refusal::AnswerBuffer,
+    ] {
+        check_number("DESK_REFUSAL", refusal, u32::from(refusal.number()));
+    }
 }
 
 #[test]

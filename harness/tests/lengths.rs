@@ -1,7 +1,7 @@
 //! Every length: of a case, of a sheet and of the answer buffer.
 
 use harness::compare::Comparison;
-use harness::desks::{Plain, Proved};
+use harness::desks::{Plain, Proved, ProvedOnNull};
 use harness::fields::Fields;
 use harness::mixture::Mixture;
 use harness::random::Random;
@@ -97,5 +97,31 @@ fn sheets_of_0_1_599_600_and_601_cases() {
                 .print_sheet(sheet, &mut random)
                 .expect("the desks agree");
         }
+    }
+}
+
+#[test]
+fn null_beside_a_length_of_0() {
+    let mut random = Random::new(settings::seed());
+    let mut comparison = Comparison::new(&ProvedOnNull, &Plain);
+    let record = Fields::example().encode();
+    for (bytes, out_len, case, sheet) in [
+        (&[][..], 0, 1, 0),
+        (&[], 96, 1, 0),
+        (&record, 0, 11, 11),
+        (&record, 96, 0, 0),
+    ] {
+        comparison.check_case(bytes).expect("the desks agree");
+        let answer = comparison
+            .rule_case(bytes, out_len, &mut random)
+            .expect("the desks agree");
+        assert_eq!(answer.number, case);
+        let (refusal, _) = comparison
+            .rule_sheet(bytes, out_len, &mut random)
+            .expect("the desks agree");
+        assert_eq!(refusal, sheet);
+        comparison
+            .print_sheet(bytes, &mut random)
+            .expect("the desks agree");
     }
 }

@@ -1,0 +1,50 @@
+/* Every field of a case record, written under the header's names, each with a value of its own: the test compares the 88 bytes
+ * with those of the harness's own record. */
+
+#include <stdio.h>
+#include <string.h>
+
+#include "desk.h"
+#include "numbers.h"
+
+int main(void)
+{
+    uint8_t record[DESK_CASE_BYTES];
+
+    memset(record, 255, sizeof record);
+    put_u16(record + DESK_AT_LENGTH, DESK_CASE_BYTES);
+    put_u16(record + DESK_AT_KIND, DESK_KIND_CASE);
+    put_u32(record + DESK_CASE_AT_TRADE, 101);
+    put_u32(record + DESK_CASE_AT_EXECUTION, 102);
+    put_u32(record + DESK_CASE_AT_CONTRACTS, DESK_MOST_CONTRACTS);
+    put_u32(record + DESK_CASE_AT_EXECUTED, 103);
+    put_u32(record + DESK_CASE_AT_BID, 104);
+    put_u32(record + DESK_CASE_AT_OFFER, 105);
+    put_u32(record + DESK_CASE_AT_BID_SIZE, 106);
+    put_u32(record + DESK_CASE_AT_OFFER_SIZE, 107);
+    put_u32(record + DESK_CASE_AT_ZERO, 0);
+    put_u32(record + DESK_CASE_AT_OFFICIAL, DESK_HIGHEST_PRICE);
+    record[DESK_CASE_AT_SIDE] = DESK_SELL;
+    record[DESK_CASE_AT_OPENING] = 1;
+    record[DESK_CASE_AT_EXPIRY] = 0;
+    record[DESK_CASE_AT_PANEL] = 1;
+    memcpy(record + DESK_CASE_AT_BUYER_CODE, "BUY1", 4);
+    put_u32(record + DESK_CASE_AT_BUYER_LIMIT, 108);
+    memcpy(record + DESK_CASE_AT_SELLER_CODE, "SEL1", 4);
+    put_u32(record + DESK_CASE_AT_SELLER_LIMIT, DESK_NONE);
+    record[DESK_CASE_AT_BUYER_KIND] = DESK_CUSTOMER;
+    record[DESK_CASE_AT_SELLER_KIND] = DESK_OTHER;
+    record[DESK_CASE_AT_DAY] = DESK_NEXT_DAY;
+    record[DESK_CASE_AT_AGREEMENT] = DESK_AGREED_NULLIFY;
+    put_u32(record + DESK_CASE_AT_AGREED_PRICE, DESK_NONE);
+    put_u32(record + DESK_CASE_AT_FILED, DESK_LAST_SECOND);
+    put_u32(record + DESK_CASE_AT_AGREED_AFTER, DESK_MOST_AFTER);
+    put_u32(record + DESK_CASE_AT_ACCEPTED_AFTER, 109);
+    put_u32(record + DESK_CASE_AT_LAST_ZERO, 0);
+
+    if (fwrite(record, 1, sizeof record, stdout) != sizeof record || fflush(stdout) != 0) {
+        fputs("standard output cannot be written\n", stderr);
+        return 2;
+    }
+    return 0;
+}
