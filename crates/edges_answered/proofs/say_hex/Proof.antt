@@ -1,8 +1,8 @@
 -- The loop ends because the place comes nearer to its end; nothing else is said of it.
 use Prim.Native.Nat.{_-_, _≤_}
 use borrow.Author.Needs.{needs}
-use Rattle.edges_ruled.proofs.say_hex.Statement.{statement}
-use Rattle.edges_ruled.proofs.say_hex.Tie as tie
+use Rattle.edges_answered.proofs.say_hex.Statement.{statement}
+use Rattle.edges_answered.proofs.say_hex.Tie as tie
 
 abbrev Inv-loop : tie.InvT-loop
 Inv-loop bytes from to i₀ t5 i = 0 ≤ i
