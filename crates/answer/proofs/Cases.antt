@@ -9,7 +9,7 @@ use Rattle.cases.specs.Cases.{refusalOf, readingOf}
 use Rattle.cases.proofs.Laws.{accepts, passed-whole}
 use Rattle.ruling.specs.Ruling.{rulingOf}
 use Rattle.notices.proofs.Built as built
-use Rattle.answer.specs.Words.{Facts}
+use Rattle.facts.specs.declared.Facts.{Facts}
 use Rattle.answer.specs.Answer.{caseRefusalOf, answerOf, caseOf}
 
 module _ (s : List ℕ) (room : ℕ) where

@@ -8,7 +8,7 @@ use Rattle.record.specs.Record.{factsOf}
 use Rattle.refusals.specs.Tests.{lengthOk, byteTests, factTests}
 use Rattle.ruling.specs.Ruling.{rulingOf}
 use Rattle.notices.specs.Records.{answerBytes}
-use Rattle.answer.specs.Words.{Facts}
+use Rattle.facts.specs.declared.Facts.{Facts}
 
 -- ---- ruling a case tests 1, then 11 on the answer buffer's length, then 2 to 9
 abbrev pub caseTests : List ℕ → ℕ → List (ℕ × Bool)

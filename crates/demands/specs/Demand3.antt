@@ -29,18 +29,18 @@ use Rattle.act.specs.Act.{catastrophicAct, actOf}
 use Rattle.act.specs.Tested.{testedAt, Alike}
 use Rattle.ruling.specs.Words.{Price, Never, Side, Buy, Facts}
 use Rattle.ruling.specs.Ruling.{ruledAt, ruledOn, ruledBy, rulingOf}
-use Rattle.ruling.specs.Tested.{testedIn, alteredFacts}
-use Rattle.ruling.proofs.Blind as blind
+use Rattle.alike.specs.Tested.{testedIn, alteredFacts}
+use Rattle.alike.proofs.Rulings as blind
 use Rattle.cases.specs.Cases.{refusalOf, readingOf}
 use Rattle.answer.specs.Answer.{caseOf}
-use Rattle.answer.specs.Blind.{codeIn, AlikeBut, UntoldBytes, Blind}
+use Rattle.alike.specs.Cases.{codeIn, AlikeBut, UntoldBytes, Blind}
 use Rattle.answer.proofs as answer
-use Rattle.answer.proofs.Blind as bytes
+use Rattle.alike.proofs.Cases as bytes
 use Rattle.sheet.specs.declared.SheetAnswer.{SheetAnswer}
 use Rattle.sheet.specs.Sheet.{caseAt, sheetOf}
-use Rattle.sheet.specs.Blind.{AlikeButOne, OnlyCase}
+use Rattle.alike.specs.Sheets.{AlikeButOne, OnlyCase}
 use Rattle.sheet.proofs as sheet
-use Rattle.sheet.proofs.Blind as sheets
+use Rattle.alike.proofs.Sheets as sheets
 use Rattle.desk.specs.declared.DeskSheet.{DeskSheet}
 use Rattle.desk.specs.Desk.{deskSheet}
 use Rattle.desk.proofs as desk

@@ -9,6 +9,7 @@ use Rattle.facts.proofs as facts
 use Rattle.record.proofs as records
 use Rattle.writing.proofs as writing
 use Rattle.refusals.proofs as refusals
+use Rattle.prices.proofs as prices
 use Rattle.faults.proofs as faults
 use Rattle.cases.proofs as cases
 use Rattle.bands.proofs as bands
@@ -100,12 +101,18 @@ facts-of-exact = records.Exact.facts-of-exact
 pub put-facts-exact : (κs : Lfts 1) → ExactIn (λ a. a .0) (writing.put_facts.Reads.Post κs)
 put-facts-exact = writing.Exact.put-facts-exact
 
--- ---- refusals, faults
+-- ---- refusals, prices, faults
 pub form-fault-exact : (κs : Lfts 1) → Exact (refusals.form_fault.Reads.Post κs)
 form-fault-exact = refusals.Exact.form-fault-exact
 
 pub unless-exact : Exact (refusals.unless.Reads.Post tt)
 unless-exact = refusals.Exact.unless-exact
+
+pub prices-ok-exact : Exact (prices.prices_ok.Reads.Post tt)
+prices-ok-exact = prices.Exact.prices-ok-exact
+
+pub counts-ok-exact : Exact (prices.counts_ok.Reads.Post tt)
+counts-ok-exact = prices.Exact.counts-ok-exact
 
 pub fault-exact : Exact (faults.fault.Reads.Post tt)
 fault-exact = faults.Exact.fault-exact

@@ -18,7 +18,7 @@ use Rattle.facts.specs.declared.Moment.{Moment}
 use Rattle.facts.specs.declared.Price.{Price}
 use Rattle.facts.specs.declared.Price.the-variants.{At, None}
 use Rattle.refusals.specs.Tests.{priceOk, faultOf}
-use Rattle.cases.proofs.Again.{sound}
+use Rattle.round_trips.proofs.Again.{sound}
 use Rattle.bands.specs.Table.{bandOf}
 use Rattle.bands.specs.Amounts.{inError}
 use Rattle.bands.proofs.Sound.{bands-sound}
@@ -27,15 +27,15 @@ use Rattle.theory.specs.Theory.{upTo}
 use Rattle.ruling.specs.Ruling.{rulingOf}
 use Rattle.ruling.specs.Reasons.{outcomeNumber, reasonOutcome}
 use Rattle.ruling.specs.Laws.{LiesBetween, SumsTo, PricedUpTo}
-use Rattle.ruling.specs.Accepted.{acceptedAt, NotAsked}
+use Rattle.alike.specs.Accepted.{acceptedAt, NotAsked}
 use Rattle.ruling.proofs.Laws as ruling
 use Rattle.ruling.proofs.Reasons as reasons
-use Rattle.ruling.proofs.Acceptance as acceptance
+use Rattle.alike.proofs.Acceptance as acceptance
 use Rattle.sheet.specs.declared.SheetAnswer.{SheetAnswer}
 use Rattle.sheet.specs.Sheet.{casesIn, entryOf, sheetOf}
-use Rattle.sheet.specs.Order.{Reordered, inOrder}
+use Rattle.order.specs.Order.{Reordered, inOrder}
 use Rattle.sheet.proofs as sheet
-use Rattle.sheet.proofs.Order as order
+use Rattle.order.proofs.Order as order
 use Rattle.sheet.proofs.Whole.{each-by-itself}
 use Rattle.desk.specs.declared.DeskSheet.{DeskSheet}
 use Rattle.desk.specs.Desk.{deskSheet}

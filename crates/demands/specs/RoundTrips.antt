@@ -14,7 +14,7 @@ use Rattle.cases.specs.Words.{Facts}
 use Rattle.cases.specs.declared.Reading.{Reading}
 use Rattle.cases.specs.Cases.{Formed, accepted, readingOf, writingOf, Held}
 use Rattle.cases.proofs as cases
-use Rattle.cases.proofs.RoundTrips as floor
+use Rattle.round_trips.proofs.RoundTrips as floor
 
 -- Facts that can be written, written over the start of any buffer and read again from there, are the same facts.
 pub written-read : (f : Facts) (buffer : List ℕ) → Held f → writingOf f (length buffer) .0 ≡ 0

@@ -1,16 +1,13 @@
 // The tests on facts behind "Numbers given back instead of a ruling" (RULE R3.4 to R3.9), in the table's order. Their
-// definitions stand in `refusals`, beside those of 1 to 3. The first that fails is told.
+// definitions stand in `refusals`, beside those of 1 to 3; the code of 5 and 6 in `prices`. The first that fails is told.
 ghost use mathlib.Core.Path.{_≡_};
-ghost use Rattle.refusals.specs.Tests.{codeByteOk, codeOk, codesOk, millsOk, priceOk, quotesPriced, pricesOk, quoteOk, countsOk, momentOk, filedOk, timesOk, limitsOk, agreementOk, faultOf};
+ghost use Rattle.refusals.specs.Tests.{codeByteOk, codeOk, codesOk, momentOk, filedOk, timesOk, limitsOk, agreementOk, faultOf};
 use facts::Agreement;
 use facts::Day;
 use facts::Facts;
-use facts::Market;
-use facts::Mills;
 use facts::Moment;
 use facts::Party;
 use facts::Price;
-use facts::Quote;
 use facts::Request;
 use facts::Seconds;
 use facts::Settlement;
@@ -54,75 +51,6 @@ fn codes_ok(buyer: Party, seller: Party) -> bool
         return false;
     }
     code_ok(sold)
-}
-
-// ---- 5: prices
-
-fn mills_ok(m: Mills) -> bool
-    ensures { λ r. ⌜ r ≡ millsOk m ⌝ }
-{
-    m.0 <= 9999999
-}
-
-fn price_ok(p: Price) -> bool
-    ensures { λ r. ⌜ r ≡ priceOk p ⌝ }
-{
-    match p {
-        Price::At(m) => mills_ok(m),
-        Price::None => true,
-    }
-}
-
-fn quotes_priced(m: Market) -> bool
-    ensures { λ r. ⌜ r ≡ quotesPriced m ⌝ }
-{
-    let bid = m.bid;
-    let bid_price = bid.price;
-    let offer = m.offer;
-    let offer_price = offer.price;
-    let official = m.official;
-    price_ok(bid_price) & price_ok(offer_price) & price_ok(official)
-}
-
-fn prices_ok(f: Facts) -> bool
-    ensures { λ r. ⌜ r ≡ pricesOk f ⌝ }
-{
-    let execution = f.trade.price;
-    let market = f.market;
-    let buyer = f.buyer;
-    let highest = buyer.limit;
-    let seller = f.seller;
-    let lowest = seller.limit;
-    let settlement = f.settlement;
-    let agreed = settlement.agreed;
-    if !mills_ok(execution) {
-        return false;
-    }
-    if !quotes_priced(market) {
-        return false;
-    }
-    price_ok(highest) & price_ok(lowest) & price_ok(agreed)
-}
-
-// ---- 6: contracts and sizes
-
-fn quote_ok(q: Quote) -> bool
-    ensures { λ r. ⌜ r ≡ quoteOk (q .price) (q .size) ⌝ }
-{
-    let price = q.price;
-    match price {
-        Price::At(m) => (q.size.0 <= 1000000) & ((m.0 == 0) | (1 <= q.size.0)),
-        Price::None => q.size.0 == 0,
-    }
-}
-
-fn counts_ok(t: Trade, m: Market) -> bool
-    ensures { λ r. ⌜ r ≡ countsOk t m ⌝ }
-{
-    if !((1 <= t.contracts.0) & (t.contracts.0 <= 1000000)) {
-        return false;
-    }
-    quote_ok(m.bid) & quote_ok(m.offer)
 }
 
 // ---- 7: times
@@ -199,10 +127,10 @@ pub fn fault(f: Facts) -> u8
     if !codes_ok(f.buyer, f.seller) {
         return 4;
     }
-    if !prices_ok(f) {
+    if !prices::prices_ok(f) {
         return 5;
     }
-    if !counts_ok(f.trade, f.market) {
+    if !prices::counts_ok(f.trade, f.market) {
         return 6;
     }
     if !times_ok(f.trade, f.request, f.settlement) {

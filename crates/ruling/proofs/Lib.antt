@@ -2,6 +2,4 @@ pub mod Walk
 pub mod Reasons
 pub mod Laws
 pub mod Numbers
-pub mod Blind
-pub mod Acceptance
 pub mod Exact

@@ -4,5 +4,3 @@ pub mod Ruling
 pub mod Reasons
 pub mod Laws
 pub mod Numbers
-pub mod Tested
-pub mod Accepted

@@ -1,6 +1,6 @@
 // The ruling on a case: the steps of the page joined (RULE R1.8), from facts to outcome, reason, price and counts.
 // Refuses nothing: facts that were not accepted have a ruling too, and nobody asks for it.
-// Contracts are subtracted here and nowhere else; besides, only the tests (`faults`) compare them, with their bounds.
+// Contracts are subtracted here and nowhere else; besides, only the tests (`prices`) compare them, with their bounds.
 ghost use mathlib.Core.Path.{_≡_};
 ghost use Rattle.ruling.specs.Reasons.{reasonOutcome};
 ghost use Rattle.ruling.specs.Counts.{coveredBy, covered, restOf};

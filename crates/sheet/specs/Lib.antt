@@ -1,4 +1,2 @@
 pub mod Words
 pub mod Sheet
-pub mod Blind
-pub mod Order

@@ -1,0 +1,4 @@
+pub mod Acceptance
+pub mod Rulings
+pub mod Cases
+pub mod Sheets

@@ -1,0 +1,3 @@
+// What a ruling does not depend on: an acceptance that no step asks for, and a member's code and limit (demand 3), on rulings, in
+// bytes and on sheets. No code: definitions and laws of the floors below, apart from them so that a change there does not pay for
+// proving these again.

@@ -1,0 +1,3 @@
+pub mod Again
+pub mod Back
+pub mod RoundTrips
