@@ -2,7 +2,7 @@
 use mathlib.Core.Path.{_≡_, refl}
 use mathlib.Core.Bool.{Bool, true, false}
 use Rattle.wire.specs.Tests.{inRange}
-use Rattle.facts.specs.Codes.{priceNumber}
+use Rattle.facts.specs.Numbers.{priceNumber}
 use Rattle.parties.specs.Parties.{isMaker, bySide, anyCustomer}
 use Rattle.act.specs.Words.{Mills, Side, Party, Band, Way, Obvious, Opening, Catastrophic, Act}
 use Rattle.act.specs.Limits.{openingStopped, catastrophicStopped}

@@ -3,7 +3,7 @@ use Prim.Native.Nat.{ℕ}
 use mathlib.Core.Bool.{Bool, false}
 use lib.Dec.{eqb}
 use Rattle.wire.specs.Tests.{pick, inRange}
-use Rattle.facts.specs.Codes.{priceNumber}
+use Rattle.facts.specs.Numbers.{priceNumber}
 use Rattle.act.specs.Words.{Mills, Price, At, None, Side, Band, Act, Adjust, Nullify, Leave}
 use Rattle.act.specs.Act.{obviousPrice, catastrophicPrice}
 

@@ -4,7 +4,7 @@
 // row has an act.
 ghost use mathlib.Core.Path.{_≡_};
 ghost use mathlib.Core.Bool.{true};
-ghost use Rattle.facts.specs.Codes.{priceNumber};
+ghost use Rattle.facts.specs.Numbers.{priceNumber};
 ghost use Rattle.parties.specs.Parties.{bySide};
 ghost use Rattle.act.specs.Minimum.{minimumOf};
 ghost use Rattle.act.specs.Limits.{otherSide, openingTested, openingStopped, customerStopped, catastrophicStopped};

@@ -3,7 +3,7 @@ use mathlib.Core.Path.{_≡_, refl}
 use mathlib.Core.Bool.{Bool, true, false}
 use mathlib.Core.Logic.{_⊎_, inl, inr}
 use Rattle.wire.specs.Tests.{pick}
-use Rattle.facts.specs.Codes.{agreementNumber}
+use Rattle.codes.specs.Codes.{agreementNumber}
 use Rattle.agreement.specs.Words.{Price, At, None, Agreement, NotMade, OnPrice, ToNullify, Settlement, Way, Heeded, Ignored}
 use Rattle.agreement.specs.Agreed.{inTime, mayNullify, termsOf, heededOf, heededNumber}
 

@@ -3,7 +3,7 @@
 use Prim.Native.Nat.{ℕ}
 use mathlib.Core.Bool.{Bool, true, false, not, _||_}
 use Rattle.wire.specs.Tests.{pick}
-use Rattle.facts.specs.Codes.{seconds}
+use Rattle.facts.specs.Numbers.{seconds}
 use Rattle.way.specs.Times.{noLater}
 use Rattle.agreement.specs.Words.{Seconds, Price, At, None, Moment, After, Never, Agreement, NotMade, OnPrice, ToNullify, Settlement, Way, Obvious, Opening, Catastrophic, Heeded, Ignored, Repriced, Undone}
 

@@ -3,7 +3,7 @@
 // refusal 9 keeps out of every accepted case, is ignored too.
 ghost use mathlib.Core.Path.{_≡_};
 ghost use mathlib.Core.Logic.{_⊎_};
-ghost use Rattle.facts.specs.Codes.{agreementNumber};
+ghost use Rattle.codes.specs.Codes.{agreementNumber};
 ghost use Rattle.agreement.specs.Agreed.{inTime, isOpening, mayNullify, termsOf, heededOf, heededNumber, acceptedInTime};
 use facts::Agreement;
 use facts::Mills;

@@ -17,7 +17,7 @@ use Rattle.refusals.specs.Tests.{codeByteOk, codeOk, codesOk, faultOf}
 use Rattle.cases.specs.Cases.{readingOf}
 use Rattle.cases.proofs.Laws.{accepted-facts}
 use Rattle.parties.specs.Parties.{bySide}
-use Rattle.ruling.specs.Reasons.{outcomeNumber}
+use Rattle.ruling.specs.Outcomes.{outcomeNumber}
 use Rattle.ruling.specs.Ruling.{rulingOf}
 use Rattle.act.specs.Tested.{altered, Alike}
 use Rattle.alike.specs.Tested.{testedIn, alteredFacts}

@@ -9,7 +9,7 @@ use lib.ListN.{getD}
 use lib.Dec.{eqb}
 use Rattle.wire.specs.Numbers.{elements, numberAt}
 use Rattle.wire.specs.Tests.{pick}
-use Rattle.facts.specs.Codes.{priceOf}
+use Rattle.facts.specs.Numbers.{priceOf}
 use Rattle.record.specs.Record.{factsOf}
 use Rattle.act.specs.Tested.{Alike}
 use Rattle.alike.specs.Tested.{testedIn}

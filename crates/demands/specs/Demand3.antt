@@ -15,7 +15,8 @@ use borrow.Author.Tests.{eqb-false}
 use Rattle.wire.specs.Laid.{laid}
 use Rattle.wire.specs.Numbers.{stored, numberAt}
 use Rattle.wire.specs.Tests.{inRange}
-use Rattle.facts.specs.Codes.{priceNumber, priceOf, momentOf, sideOf, kindOf, dayOf, agreementOf, flagOf}
+use Rattle.facts.specs.Numbers.{priceNumber, priceOf, momentOf}
+use Rattle.codes.specs.Codes.{sideOf, kindOf, dayOf, agreementOf, flagOf}
 use Rattle.record.specs.Record.{tradeOf, marketOf, requestOf, partyAt, settlementOf, factsOf}
 use Rattle.refusals.specs.Tests.{headOk, zerosOk, listsOk, codesOk, codeOk, codeByteOk, pricesOk, quotesPriced, countsOk, timesOk, limitsOk}
 use Rattle.bands.specs.Table.{bandOf}

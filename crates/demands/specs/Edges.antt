@@ -6,7 +6,8 @@ use mathlib.Core.Bool.{false}
 use mathlib.Core.List.{List, [], _∷_, map}
 use Rattle.wire.specs.Numbers.{numberAt}
 use Rattle.wire.specs.Tests.{inRange}
-use Rattle.facts.specs.Codes.{mills, contracts, seconds, priceNumber, priceOf, momentOf, sideOf, kindOf, dayOf, agreementOf, flagOf}
+use Rattle.facts.specs.Numbers.{mills, contracts, seconds, priceNumber, priceOf, momentOf}
+use Rattle.codes.specs.Codes.{sideOf, kindOf, dayOf, agreementOf, flagOf}
 use Rattle.ruling.specs.Words.{Price, At, None, Moment, After, Never, Side, Buy, Sell, Kind, Customer, MarketMaker, Day, TradeDate, Later, NotMade, Quote, Market, Facts}
 use Rattle.ruling.specs.declared.Counts.{Counts}
 use Rattle.record.specs.Record.{tradeOf, marketOf, requestOf, partyAt, settlementOf, factsOf, recordBytes}
@@ -19,7 +20,7 @@ use Rattle.agreement.specs.Agreed.{inTime, mayNullify, heededOf}
 use Rattle.act.specs.Limits.{openingTested, openingStopped, catastrophicStopped}
 use Rattle.act.specs.Act.{obviousAct, openingAct, catastrophicAct, actOf}
 use Rattle.ruling.specs.Ruling.{ruledAt, ruledOn, ruledBy, rulingOf}
-use Rattle.ruling.specs.Reasons.{outcomeNumber, newPrice, countsOf}
+use Rattle.ruling.specs.Outcomes.{outcomeNumber, newPrice, countsOf}
 use Rattle.notices.specs.Records.{rulingRecord, shows, shownCode, noticeRecord, answerRecords}
 use Rattle.answer.specs.Answer.{caseRefusalOf, answerOf, caseOf}
 

@@ -6,6 +6,7 @@ use contract.Lifetimes.{Lfts}
 use Rattle.wire.specs.Exact.{Exact, ExactIn}
 use Rattle.wire.proofs as wire
 use Rattle.facts.proofs as facts
+use Rattle.codes.proofs as codes
 use Rattle.record.proofs as records
 use Rattle.writing.proofs as writing
 use Rattle.refusals.proofs as refusals
@@ -18,6 +19,7 @@ use Rattle.way.proofs as way
 use Rattle.theory.proofs as theory
 use Rattle.agreement.proofs as agreement
 use Rattle.act.proofs as act
+use Rattle.reasons.proofs as reasons
 use Rattle.ruling.proofs as ruling
 use Rattle.figures.proofs as figures
 use Rattle.notices.proofs as notices
@@ -58,38 +60,39 @@ moment-of-exact = facts.Exact.moment-of-exact
 pub moment-number-exact : Exact (facts.moment_number.Reads.Post tt)
 moment-number-exact = facts.Exact.moment-number-exact
 
-pub side-of-exact : Exact (facts.side_of.Reads.Post tt)
-side-of-exact = facts.Exact.side-of-exact
-
-pub side-number-exact : Exact (facts.side_number.Reads.Post tt)
-side-number-exact = facts.Exact.side-number-exact
-
-pub kind-of-exact : Exact (facts.kind_of.Reads.Post tt)
-kind-of-exact = facts.Exact.kind-of-exact
-
-pub kind-number-exact : Exact (facts.kind_number.Reads.Post tt)
-kind-number-exact = facts.Exact.kind-number-exact
-
-pub day-of-exact : Exact (facts.day_of.Reads.Post tt)
-day-of-exact = facts.Exact.day-of-exact
-
-pub day-number-exact : Exact (facts.day_number.Reads.Post tt)
-day-number-exact = facts.Exact.day-number-exact
-
-pub agreement-of-exact : Exact (facts.agreement_of.Reads.Post tt)
-agreement-of-exact = facts.Exact.agreement-of-exact
-
-pub agreement-number-exact : Exact (facts.agreement_number.Reads.Post tt)
-agreement-number-exact = facts.Exact.agreement-number-exact
-
-pub flag-of-exact : Exact (facts.flag_of.Reads.Post tt)
-flag-of-exact = facts.Exact.flag-of-exact
-
-pub flag-number-exact : Exact (facts.flag_number.Reads.Post tt)
-flag-number-exact = facts.Exact.flag-number-exact
-
 pub violates-exact : Exact (facts.violates.Reads.Post tt)
 violates-exact = facts.Exact.violates-exact
+
+-- ---- codes
+pub side-of-exact : Exact (codes.side_of.Reads.Post tt)
+side-of-exact = codes.Exact.side-of-exact
+
+pub side-number-exact : Exact (codes.side_number.Reads.Post tt)
+side-number-exact = codes.Exact.side-number-exact
+
+pub kind-of-exact : Exact (codes.kind_of.Reads.Post tt)
+kind-of-exact = codes.Exact.kind-of-exact
+
+pub kind-number-exact : Exact (codes.kind_number.Reads.Post tt)
+kind-number-exact = codes.Exact.kind-number-exact
+
+pub day-of-exact : Exact (codes.day_of.Reads.Post tt)
+day-of-exact = codes.Exact.day-of-exact
+
+pub day-number-exact : Exact (codes.day_number.Reads.Post tt)
+day-number-exact = codes.Exact.day-number-exact
+
+pub agreement-of-exact : Exact (codes.agreement_of.Reads.Post tt)
+agreement-of-exact = codes.Exact.agreement-of-exact
+
+pub agreement-number-exact : Exact (codes.agreement_number.Reads.Post tt)
+agreement-number-exact = codes.Exact.agreement-number-exact
+
+pub flag-of-exact : Exact (codes.flag_of.Reads.Post tt)
+flag-of-exact = codes.Exact.flag-of-exact
+
+pub flag-number-exact : Exact (codes.flag_number.Reads.Post tt)
+flag-number-exact = codes.Exact.flag-number-exact
 
 -- ---- record, writing
 pub code-at-exact : (κs : Lfts 1) → Exact (records.code_at.Reads.Post κs)
@@ -172,15 +175,15 @@ heed-exact = agreement.Exact.heed-exact
 pub accepted-in-time-exact : Exact (agreement.accepted_in_time.Reads.Post tt)
 accepted-in-time-exact = agreement.Exact.accepted-in-time-exact
 
--- ---- act, ruling
+-- ---- act, reasons, ruling
 pub minimum-of-exact : Exact (act.minimum_of.Reads.Post tt)
 minimum-of-exact = act.Exact.minimum-of-exact
 
 pub find-act-exact : Exact (act.find_act.Reads.Post tt)
 find-act-exact = act.Exact.find-act-exact
 
-pub outcome-of-exact : Exact (ruling.outcome_of.Reads.Post tt)
-outcome-of-exact = ruling.Exact.outcome-of-exact
+pub outcome-of-exact : Exact (reasons.outcome_of.Reads.Post tt)
+outcome-of-exact = reasons.Exact.outcome-of-exact
 
 pub rule-exact : Exact (ruling.rule.Reads.Post tt)
 rule-exact = ruling.Exact.rule-exact

@@ -25,7 +25,8 @@ use Rattle.bands.proofs.Sound.{bands-sound}
 use Rattle.bands.proofs.Error as bands
 use Rattle.theory.specs.Theory.{upTo}
 use Rattle.ruling.specs.Ruling.{rulingOf}
-use Rattle.ruling.specs.Reasons.{outcomeNumber, reasonOutcome}
+use Rattle.reasons.specs.Reasons.{reasonOutcome}
+use Rattle.ruling.specs.Outcomes.{outcomeNumber}
 use Rattle.ruling.specs.Laws.{LiesBetween, SumsTo, PricedUpTo}
 use Rattle.alike.specs.Accepted.{acceptedAt, NotAsked}
 use Rattle.ruling.proofs.Laws as ruling

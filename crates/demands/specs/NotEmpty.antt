@@ -7,7 +7,8 @@ use mathlib.Core.List.{List, [], _∷_, _++_}
 use Rattle.wire.specs.Laid.{row}
 use Rattle.wire.specs.Numbers.{bytes, stored, numberAt}
 use Rattle.wire.specs.Tests.{inRange}
-use Rattle.facts.specs.Codes.{priceOf, momentOf, sideOf, kindOf, dayOf, agreementOf, flagOf}
+use Rattle.facts.specs.Numbers.{priceOf, momentOf}
+use Rattle.codes.specs.Codes.{sideOf, kindOf, dayOf, agreementOf, flagOf}
 use Rattle.record.specs.Record.{tradeOf, marketOf, requestOf, partyAt, settlementOf, factsOf}
 use Rattle.refusals.specs.Tests.{headOk, zerosOk, listsOk, codesOk, codeOk, codeByteOk, pricesOk, quotesPriced, countsOk, timesOk, limitsOk}
 use Rattle.cases.specs.Cases.{refusalOf, accepted, refused, readingOf, writeRefusalOf, writingOf}

@@ -1,3 +1,3 @@
 pub mod Words
-pub mod Codes
+pub mod Numbers
 pub mod Limits

@@ -1,6 +1,6 @@
 -- A ruling in the page's numbers (RULE R10.1).
-use Rattle.facts.specs.Codes.{priceNumber}
-use Rattle.ruling.specs.Reasons.{outcomeNumber, newPrice, countsOf}
+use Rattle.facts.specs.Numbers.{priceNumber}
+use Rattle.ruling.specs.Outcomes.{outcomeNumber, newPrice, countsOf}
 use Rattle.figures.specs.Words.{Ruling, Figures}
 
 -- The outcome 0 no relief, 1 adjusted, 2 nullified, 3 waiting; TP or none; the new price, none

@@ -4,7 +4,7 @@ ghost use mathlib.Core.Path.{_≡_};
 ghost use lib.ListN.{length};
 ghost use Rattle.record.specs.Record.{factsOf};
 ghost use Rattle.ruling.specs.Ruling.{rulingOf};
-ghost use Rattle.ruling.specs.Reasons.{newPrice, countsOf};
+ghost use Rattle.ruling.specs.Outcomes.{newPrice, countsOf};
 ghost use Rattle.figures.specs.Figures.{figuresOf};
 use facts::Price;
 use ruling::Counts;
@@ -59,7 +59,7 @@ pub fn judge(case: &[u8]) -> Figures
     let counts = counts_of(outcome);
     Figures {
         trade: r.trade,
-        outcome: ruling::outcome_of(r.reason),
+        outcome: reasons::outcome_of(r.reason),
         reason: r.reason,
         tp: facts::price_number(tp),
         price: facts::price_number(new_price(outcome)),

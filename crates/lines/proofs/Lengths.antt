@@ -4,7 +4,7 @@ use mathlib.Core.List.{List}
 use native.Mathlib.Omega.{arith}
 use lib.ListN.{length, length-append}
 use lib.Dec.{eqb}
-use Rattle.facts.specs.Codes.{priceOf}
+use Rattle.facts.specs.Numbers.{priceOf}
 use Rattle.wire.proofs.Tests.{either}
 use Rattle.text.proofs.Decimal.{decimal-length, price-length}
 use Rattle.lines.specs.Words.{Figures}

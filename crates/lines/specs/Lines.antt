@@ -3,7 +3,7 @@ use Prim.Native.Nat.{ℕ}
 use mathlib.Core.List.{List, [], _∷_, _++_}
 use lib.Dec.{eqb}
 use Rattle.wire.specs.Tests.{pick}
-use Rattle.facts.specs.Codes.{priceOf}
+use Rattle.facts.specs.Numbers.{priceOf}
 use Rattle.text.specs.Text.{letters, decimalOf, priceText}
 use Rattle.lines.specs.Words.{Figures}
 

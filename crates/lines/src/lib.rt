@@ -4,7 +4,7 @@ ghost use mathlib.Core.Path.{_≡_};
 ghost use Prim.Native.Nat.{_+_, _≤_};
 ghost use lib.ListN.{length};
 ghost use Rattle.wire.specs.Laid.{laid};
-ghost use Rattle.facts.specs.Codes.{priceOf};
+ghost use Rattle.facts.specs.Numbers.{priceOf};
 ghost use Rattle.text.specs.Text.{laidAt, decimalOf, priceText};
 ghost use Rattle.lines.specs.Lines.{ended, header, outcomeWord, line, countFields, ruledLine, refusedLine, endLine, sheetLine};
 use figures::Figures;

@@ -4,7 +4,7 @@ use mathlib.Core.Path.{_≡_, refl, ap, _∙_}
 use mathlib.Core.List.{List}
 use lib.ListN.{length, replicate}
 use Rattle.wire.specs.Numbers.{elements, stored}
-use Rattle.facts.specs.Codes.{sideNumber}
+use Rattle.codes.specs.Codes.{sideNumber}
 use Rattle.notices.specs.Words.{Side, Ruling, Figures}
 use Rattle.notices.specs.Records.{startBytes, ruledBytes, rulingRecord, rulingBytes, toldBytes, shownCode, codeBytes, noticeRecord, noticeBytes, answerRecords, answerBytes}
 

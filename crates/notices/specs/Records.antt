@@ -4,7 +4,7 @@ use mathlib.Core.Bool.{Bool}
 use mathlib.Core.List.{List, [], _∷_, _++_}
 use Rattle.wire.specs.Numbers.{bytes, elements}
 use Rattle.wire.specs.Tests.{pick, inRange}
-use Rattle.facts.specs.Codes.{sideNumber}
+use Rattle.codes.specs.Codes.{sideNumber}
 use Rattle.figures.specs.Figures.{figuresOf}
 use Rattle.notices.specs.Words.{Side, Buy, Sell, Ruling, Figures}
 

@@ -93,7 +93,7 @@ fn put_notice(out: &mut [u8], n: Figures, recipient: Side, code: [u8; 4], other:
     ensures { λ _. ⌜ now (out .exit) ≡ laid (noticeRecord n recipient code other) (now (out .entry)) ⌝ }
 {
     let mut record = [0u8; 32];
-    put_head(&mut record, 17, n, facts::side_number(recipient));
+    put_head(&mut record, 17, n, codes::side_number(recipient));
     put_told(&mut record, n);
     put_codes(&mut record, n.outcome, code, other);
     bytes::copy(&record, out);

@@ -1,6 +1,6 @@
 // The parties by their kinds, and which of two is the one in error. Refuses nothing: every kind has an answer.
 ghost use mathlib.Core.Path.{_≡_};
-ghost use Rattle.facts.specs.Codes.{kindNumber};
+ghost use Rattle.codes.specs.Codes.{kindNumber};
 ghost use Rattle.parties.specs.Parties.{isCustomer, isMaker, bySide, anyCustomer};
 use facts::Kind;
 use facts::Side;

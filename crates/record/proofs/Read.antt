@@ -5,7 +5,8 @@ use mathlib.Core.Bool.{Bool}
 use mathlib.Core.List.{List}
 use lib.ListN.{getD}
 use Rattle.wire.specs.Numbers.{elements, numberAt}
-use Rattle.facts.specs.Codes.{mills, contracts, seconds, priceOf, momentOf, sideOf, kindOf, dayOf, agreementOf, flagOf}
+use Rattle.facts.specs.Numbers.{mills, contracts, seconds, priceOf, momentOf}
+use Rattle.codes.specs.Codes.{sideOf, kindOf, dayOf, agreementOf, flagOf}
 use Rattle.facts.specs.declared.Side.{Side}
 use Rattle.facts.specs.declared.Kind.{Kind}
 use Rattle.facts.specs.declared.Day.{Day}

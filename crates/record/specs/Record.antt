@@ -4,7 +4,8 @@ use mathlib.Core.List.{List, [], _∷_, _++_}
 use lib.ListN.{getD}
 use Rattle.wire.specs.Numbers.{bytes, elements, numberAt, stored}
 use Rattle.record.specs.Words.{Seconds, Party, Trade, Market, Request, Settlement, Facts}
-use Rattle.facts.specs.Codes.{mills, contracts, seconds, priceOf, priceNumber, momentOf, momentNumber, sideOf, sideNumber, kindOf, kindNumber, dayOf, dayNumber, agreementOf, agreementNumber, flagOf, flagNumber}
+use Rattle.facts.specs.Numbers.{mills, contracts, seconds, priceOf, priceNumber, momentOf, momentNumber}
+use Rattle.codes.specs.Codes.{sideOf, sideNumber, kindOf, kindNumber, dayOf, dayNumber, agreementOf, agreementNumber, flagOf, flagNumber}
 
 -- ---- what the bytes say: at N, the number or byte that stands there
 

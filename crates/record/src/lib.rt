@@ -34,7 +34,7 @@ fn party_at(s: &[u8], at: usize, kind_at: usize) -> Party
 {
     let code = code_at(s, at);
     let limit = facts::price_of(wire::read_u32(s, at + 4));
-    let kind = facts::kind_of(s[kind_at]);
+    let kind = codes::kind_of(s[kind_at]);
     Party {
         code: code,
         limit: limit,
@@ -78,11 +78,11 @@ fn request_of(s: &[u8]) -> Request
     ensures { λ r. ⌜ r ≡ requestOf (now (s .entry)) ⌝ }
 {
     Request {
-        side: facts::side_of(s[44]),
-        opening: facts::flag_of(s[45]),
-        expiry: facts::flag_of(s[46]),
-        decided: facts::flag_of(s[47]),
-        day: facts::day_of(s[66]),
+        side: codes::side_of(s[44]),
+        opening: codes::flag_of(s[45]),
+        expiry: codes::flag_of(s[46]),
+        decided: codes::flag_of(s[47]),
+        day: codes::day_of(s[66]),
         filed: Seconds(wire::read_u32(s, 72)),
     }
 }
@@ -92,7 +92,7 @@ fn settlement_of(s: &[u8]) -> Settlement
     ensures { λ r. ⌜ r ≡ settlementOf (now (s .entry)) ⌝ }
 {
     Settlement {
-        agreement: facts::agreement_of(s[67]),
+        agreement: codes::agreement_of(s[67]),
         agreed: facts::price_of(wire::read_u32(s, 68)),
         made: Seconds(wire::read_u32(s, 76)),
         accepted: facts::moment_of(wire::read_u32(s, 80)),

@@ -11,8 +11,9 @@ use borrow.Author.Tests.{leb-true, ne-eqb, eqb-true, eqb-false}
 use Rattle.wire.specs.Numbers.{joined, bytes, elements, numberAt}
 use Rattle.wire.proofs.Numbers.{joined-bytes}
 use Rattle.wire.proofs.Tests.{both-true, none-fails}
-use Rattle.facts.specs.Codes.{priceOf, priceNumber, momentOf, momentNumber, sideOf, kindOf, dayOf, agreementOf, flagOf}
-use Rattle.facts.proofs.Codes.{side-again, kind-again, day-again, agreement-again, flag-again}
+use Rattle.facts.specs.Numbers.{priceOf, priceNumber, momentOf, momentNumber}
+use Rattle.codes.specs.Codes.{sideOf, kindOf, dayOf, agreementOf, flagOf}
+use Rattle.codes.proofs.Codes.{side-again, kind-again, day-again, agreement-again, flag-again}
 use Rattle.record.specs.Record.{tradeOf, marketOf, requestOf, partyAt, settlementOf, factsOf, recordBytes}
 use Rattle.refusals.specs.Tests.{millsOk, priceOk, momentOk, quoteOk, codesOk, quotesPriced, pricesOk, countsOk, timesOk, filedOk, faultOf}
 use Rattle.refusals.specs.Words.{Contracts, Price, At, None, Moment, After, Never, Party, Trade, Market, Request, Settlement, Facts}

@@ -10,8 +10,9 @@ use Rattle.wire.specs.Numbers.{AreBytes, bytes, elements, numberAt}
 use Rattle.wire.specs.Tests.{inRange}
 use Rattle.wire.proofs.Numbers.{elements-all, bytes-number}
 use Rattle.wire.proofs.Tests.{both-true}
-use Rattle.facts.specs.Codes.{priceOf, priceNumber, momentOf, momentNumber}
-use Rattle.facts.proofs.Codes.{price-number, moment-number, side-number, kind-number, day-number, agreement-number, flag-number}
+use Rattle.facts.specs.Numbers.{priceOf, priceNumber, momentOf, momentNumber}
+use Rattle.facts.proofs.Numbers.{price-number, moment-number}
+use Rattle.codes.proofs.Codes.{side-number, kind-number, day-number, agreement-number, flag-number}
 use Rattle.record.specs.Record.{tradeOf, marketOf, requestOf, partyAt, settlementOf, factsOf, headBytes, tradeBytes, marketBytes, flagBytes, partyBytes, listBytes, tailBytes, recordBytes}
 use Rattle.refusals.specs.Tests.{headOk, zerosOk, listsOk}
 use Rattle.cases.specs.Cases.{Formed}

@@ -6,7 +6,7 @@ use lib.ListN.{length, take, drop}
 use lib.Seq.{take-at}
 use Rattle.wire.specs.Numbers.{AreBytes, numberAt}
 use Rattle.wire.specs.Laid.{laid}
-use Rattle.facts.proofs.Codes.{side-listed, kind-listed, day-listed, agreement-listed, flag-listed}
+use Rattle.codes.proofs.Codes.{side-listed, kind-listed, day-listed, agreement-listed, flag-listed}
 use Rattle.record.specs.Record.{factsOf, recordBytes}
 use Rattle.refusals.specs.Tests.{headOk, zerosOk, listsOk, faultOf}
 use Rattle.refusals.specs.Words.{Facts}

@@ -8,13 +8,13 @@ use lib.Dec.{eqb}
 use borrow.Author.Tests.{ne-eqb}
 use Rattle.wire.specs.Tests.{pick, inRange}
 use Rattle.wire.proofs.Tests.{range-ends, each-listed}
-use Rattle.facts.specs.Codes.{priceNumber}
+use Rattle.facts.specs.Numbers.{priceNumber}
 use Rattle.bands.specs.Table.{bandOf}
 use Rattle.theory.specs.Theory.{theoryOf}
 use Rattle.agreement.specs.Agreed.{acceptedInTime}
 use Rattle.act.proofs.Reasons.{act-told}
 use Rattle.ruling.specs.Words.{Mills, Price, At, None, Facts, Way, Source, Ruling}
-use Rattle.ruling.specs.Reasons.{outcomeNumber, newPrice, countsOf}
+use Rattle.ruling.specs.Outcomes.{outcomeNumber, newPrice, countsOf}
 use Rattle.ruling.specs.Ruling.{rulingOf}
 use Rattle.ruling.specs.Numbers.{actPriceAt, newPriceFor, wayIn, coverFor, InNumbers}
 use Rattle.ruling.proofs.Walk.{Grounds, each-ruling}

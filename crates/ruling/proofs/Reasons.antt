@@ -7,7 +7,8 @@ use native.Mathlib.Omega.{arith}
 use Rattle.wire.specs.Tests.{inRange}
 use Rattle.wire.proofs.Tests.{range-in, range-high, range-ends}
 use Rattle.ruling.specs.Words.{Facts, Ruling}
-use Rattle.ruling.specs.Reasons.{outcomeNumber, reasonOutcome}
+use Rattle.reasons.specs.Reasons.{reasonOutcome}
+use Rattle.ruling.specs.Outcomes.{outcomeNumber}
 use Rattle.ruling.specs.Ruling.{rulingOf}
 use Rattle.ruling.proofs.Walk.{each-ruling}
 

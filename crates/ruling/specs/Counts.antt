@@ -2,7 +2,7 @@
 use Prim.Native.Nat.{_-_}
 use lib.Dec.{ltb}
 use Rattle.wire.specs.Tests.{pick}
-use Rattle.facts.specs.Codes.{contracts}
+use Rattle.facts.specs.Numbers.{contracts}
 use Rattle.ruling.specs.Words.{Contracts, Way, Obvious, Opening, Catastrophic, Cover, UpTo, Every, Counts}
 
 -- at most the size of the quote that gave TP, which may be 0; where an official gave it there is no such limit

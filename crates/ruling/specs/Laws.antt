@@ -6,7 +6,7 @@ use Rattle.wire.specs.Tests.{inRange}
 use Rattle.bands.specs.Between.{Between}
 use Rattle.act.specs.Numbers.{IfPriced}
 use Rattle.ruling.specs.Words.{Mills, Price, At, None, Counts, Ruling}
-use Rattle.ruling.specs.Reasons.{newPrice, countsOf}
+use Rattle.ruling.specs.Outcomes.{newPrice, countsOf}
 
 -- the contracts adjusted, nullified and standing together
 abbrev pub total : Counts → ℕ

@@ -1,6 +1,6 @@
 pub mod Words
 pub mod Counts
 pub mod Ruling
-pub mod Reasons
+pub mod Outcomes
 pub mod Laws
 pub mod Numbers

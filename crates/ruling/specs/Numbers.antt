@@ -3,7 +3,7 @@ use Prim.Native.Nat.{ℕ}
 use mathlib.Core.Path.{_≡_}
 use lib.Dec.{eqb}
 use Rattle.wire.specs.Tests.{pick}
-use Rattle.facts.specs.Codes.{priceNumber}
+use Rattle.facts.specs.Numbers.{priceNumber}
 use Rattle.bands.specs.Table.{bandOf}
 use Rattle.parties.specs.Parties.{bySide}
 use Rattle.way.specs.Way.{wayOf}
@@ -11,7 +11,8 @@ use Rattle.theory.specs.Theory.{theoryOf}
 use Rattle.act.specs.Numbers.{priceFor}
 use Rattle.ruling.specs.Words.{Contracts, Price, At, None, Side, Facts, Open, By, Closed, Theory, Found, Missing, Ruling}
 use Rattle.ruling.specs.Counts.{covered}
-use Rattle.ruling.specs.Reasons.{outcomeNumber, newPrice, countsOf, reasonOutcome}
+use Rattle.reasons.specs.Reasons.{reasonOutcome}
+use Rattle.ruling.specs.Outcomes.{outcomeNumber, newPrice, countsOf}
 use Rattle.ruling.specs.Laws.{SumsTo}
 
 -- the price that an act sets for a reason at a TP; where there is no TP, none

@@ -2,7 +2,6 @@
 // Refuses nothing: facts that were not accepted have a ruling too, and nobody asks for it.
 // Contracts are subtracted here and nowhere else; besides, only the tests (`prices`) compare them, with their bounds.
 ghost use mathlib.Core.Path.{_≡_};
-ghost use Rattle.ruling.specs.Reasons.{reasonOutcome};
 ghost use Rattle.ruling.specs.Counts.{coveredBy, covered, restOf};
 ghost use Rattle.ruling.specs.Ruling.{noRelief, waiting, nullify, adjust, carriedOut, settled, ruledAt, ruledOn, ruledBy, rulingOf};
 ghost use Rattle.ruling.specs.Numbers.{InNumbers};
@@ -43,21 +42,6 @@ pub struct Ruling {
     pub outcome: Outcome,
     pub reason: u8,
     pub tp: Price,
-}
-
-// ---- the outcome of a reason
-
-// 0 no relief, 1 adjusted, 2 nullified, 3 waiting; 255 for a number that is no reason.
-pub fn outcome_of(reason: u8) -> u8
-    ensures { λ r. ⌜ r ≡ reasonOutcome reason ⌝ }
-{
-    match reason {
-        1..=5 => 0,
-        6..=10 => 1,
-        11..=13 => 2,
-        14 => 3,
-        _ => 255,
-    }
 }
 
 // ---- contracts

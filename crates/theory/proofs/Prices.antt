@@ -3,7 +3,7 @@ use Prim.Native.Nat.{ℕ, _≤_}
 use mathlib.Core.Path.{_≡_, refl, sym, ap, _∙_}
 use mathlib.Core.Bool.{true}
 use borrow.Author.Tests.{leb-true}
-use Rattle.facts.specs.Codes.{priceNumber}
+use Rattle.facts.specs.Numbers.{priceNumber}
 use Rattle.theory.specs.Words.{Contracts, Price, At, None, Side, Buy, Sell, Market, Source, Found}
 use Rattle.theory.specs.Theory.{quoteFor, sourceOf, theoryOf, theoryPrice, theoryNumber, orElse, upTo}
 

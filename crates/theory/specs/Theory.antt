@@ -2,7 +2,7 @@
 use Prim.Native.Nat.{ℕ}
 use mathlib.Core.Bool.{Bool, true}
 use lib.Dec.{leb}
-use Rattle.facts.specs.Codes.{priceNumber}
+use Rattle.facts.specs.Numbers.{priceNumber}
 use Rattle.theory.specs.Words.{Contracts, Price, At, None, Side, Buy, Sell, Quote, Market, UpTo, Every, Theory, Found, Missing}
 
 -- A buy is held against the best offer, a sell against the best bid (RULE R5.1).

@@ -2,7 +2,7 @@
 // contracts an opening adjustment to it may cover. Refuses nothing: where no one gave a price the answer says so,
 // and the ruling lets the case wait. No price is compared here: TP is one of the three prices, as it stands.
 ghost use mathlib.Core.Path.{_≡_};
-ghost use Rattle.facts.specs.Codes.{priceNumber};
+ghost use Rattle.facts.specs.Numbers.{priceNumber};
 ghost use Rattle.theory.specs.Theory.{quoteFor, orElse, sourceOf, theoryOf, theoryNumber};
 use facts::Contracts;
 use facts::Market;

@@ -3,7 +3,7 @@
 -- times those of document 000, struck (d)(3)(A).
 use mathlib.Core.Bool.{Bool, not, _&&_, _||_}
 use Rattle.wire.specs.Tests.{pick}
-use Rattle.facts.specs.Codes.{seconds}
+use Rattle.facts.specs.Numbers.{seconds}
 use Rattle.way.specs.Words.{Seconds, Request, Kind, Customer, MarketMaker, Other, Day, Obvious, Opening, Catastrophic, Open, By, Closed}
 use Rattle.parties.specs.Parties.{isCustomer}
 use Rattle.way.specs.Times.{isTradeDate, isNextDay, noLater, within}

@@ -57,10 +57,10 @@ fn put_flags(out: &mut [u8], r: Request)
     wire::put_four(
         out,
         44,
-        facts::side_number(side),
-        facts::flag_number(r.opening),
-        facts::flag_number(r.expiry),
-        facts::flag_number(r.decided),
+        codes::side_number(side),
+        codes::flag_number(r.opening),
+        codes::flag_number(r.expiry),
+        codes::flag_number(r.decided),
     );
 }
 
@@ -89,10 +89,10 @@ fn put_lists(out: &mut [u8], f: Facts)
     wire::put_four(
         out,
         64,
-        facts::kind_number(buyer_kind),
-        facts::kind_number(seller_kind),
-        facts::day_number(day),
-        facts::agreement_number(agreement),
+        codes::kind_number(buyer_kind),
+        codes::kind_number(seller_kind),
+        codes::day_number(day),
+        codes::agreement_number(agreement),
     );
 }
 

@@ -1,6 +1,6 @@
 use borrow.Author.Tests.{eq-eqb, ne-eqb}
-use Rattle.facts.specs.Codes.{momentOf, momentNumber}
-use Rattle.facts.proofs.Codes.{moment-number, spelled}
+use Rattle.facts.specs.Numbers.{momentOf, momentNumber}
+use Rattle.facts.proofs.Numbers.{moment-number, spelled}
 use Rattle.facts.proofs.moment_of.Statement.{statement}
 use Rattle.facts.proofs.moment_of.Tie as tie
 

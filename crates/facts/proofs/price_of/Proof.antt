@@ -1,6 +1,6 @@
 use borrow.Author.Tests.{eq-eqb, ne-eqb}
-use Rattle.facts.specs.Codes.{priceOf, priceNumber}
-use Rattle.facts.proofs.Codes.{price-number, spelled}
+use Rattle.facts.specs.Numbers.{priceOf, priceNumber}
+use Rattle.facts.proofs.Numbers.{price-number, spelled}
 use Rattle.facts.proofs.price_of.Statement.{statement}
 use Rattle.facts.proofs.price_of.Tie as tie
 

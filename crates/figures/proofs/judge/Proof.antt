@@ -2,9 +2,9 @@
 use Prim.Native.Nat.{ℕ}
 use mathlib.Core.Path.{_≡_, sym, ap, _∙_}
 use Rattle.facts.specs.declared.Price.{Price}
-use Rattle.facts.specs.Codes.{priceNumber}
+use Rattle.facts.specs.Numbers.{priceNumber}
 use Rattle.ruling.specs.declared.Counts.{Counts}
-use Rattle.ruling.specs.Reasons.{outcomeNumber, newPrice, countsOf}
+use Rattle.ruling.specs.Outcomes.{outcomeNumber, newPrice, countsOf}
 use Rattle.ruling.specs.Ruling.{rulingOf}
 use Rattle.figures.specs.Words.{Ruling}
 use Rattle.figures.specs.Figures.{figuresOf}

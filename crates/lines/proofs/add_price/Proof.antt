@@ -1,4 +1,4 @@
-use Rattle.facts.specs.Codes.{priceOf}
+use Rattle.facts.specs.Numbers.{priceOf}
 use mathlib.Core.Path.{_≡_}
 use native.Mathlib.Omega.{arith}
 use Rattle.text.proofs.Placed.{placed-next}

@@ -1,6 +1,6 @@
 use Prim.Native.Nat.{ℕ}
 use mathlib.Core.Path.{_≡_}
-use Rattle.facts.specs.Codes.{contracts}
+use Rattle.facts.specs.Numbers.{contracts}
 use Rattle.ruling.specs.Words.{Contracts, Mills, At, Trade, Way, Source, Ruling, Adjusted}
 use Rattle.ruling.specs.Counts.{covered, restOf, counts}
 use Rattle.ruling.specs.Ruling.{adjust}

@@ -1,7 +1,7 @@
 use Prim.Native.Nat.{_-_}
 use mathlib.Core.Path.{_≡_, ap}
 use native.Mathlib.Omega.{arith}
-use Rattle.facts.specs.Codes.{contracts}
+use Rattle.facts.specs.Numbers.{contracts}
 use borrow.Author.Needs.{needs}
 use Rattle.ruling.proofs.rest_of.Statement.{statement}
 use Rattle.ruling.proofs.rest_of.Tie as tie

@@ -1,5 +1,5 @@
 use mathlib.Core.Path.{ap, _∙_}
-use Rattle.facts.proofs.Codes.{spelled}
+use Rattle.facts.proofs.Numbers.{spelled}
 use Rattle.theory.specs.Words.{Quote}
 use Rattle.theory.specs.Theory.{sourceOf, theoryOf, theoryNumber}
 use Rattle.theory.proofs.Prices.{theory-number}

@@ -1,6 +1,6 @@
 use mathlib.Core.Path.{_≡_, ap₂}
 use mathlib.Core.Bool.{Bool, true, false, _&&_, _||_}
-use Rattle.facts.specs.Codes.{seconds}
+use Rattle.facts.specs.Numbers.{seconds}
 use Rattle.way.specs.Words.{Day, Seconds}
 use Rattle.way.specs.Times.{isTradeDate, isNextDay, noLater}
 use Rattle.way.specs.Way.{catastrophicOpen}

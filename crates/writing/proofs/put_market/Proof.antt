@@ -1,7 +1,7 @@
 use denote.Ref.{now}
 use Rattle.wire.specs.Numbers.{bytes}
 use Rattle.wire.proofs.Stored.{next, number-given}
-use Rattle.facts.specs.Codes.{priceNumber}
+use Rattle.facts.specs.Numbers.{priceNumber}
 use borrow.Author.Needs.{needs}
 use Rattle.writing.proofs.put_market.Statement.{statement}
 use Rattle.writing.proofs.put_market.Tie as tie

@@ -1,7 +1,7 @@
 use denote.Ref.{now}
 use Rattle.wire.specs.Numbers.{bytes}
 use Rattle.wire.proofs.Stored.{next, number-given}
-use Rattle.facts.specs.Codes.{momentNumber}
+use Rattle.facts.specs.Numbers.{momentNumber}
 use borrow.Author.Needs.{needs}
 use Rattle.writing.proofs.put_tail.Statement.{statement}
 use Rattle.writing.proofs.put_tail.Tie as tie

@@ -1,8 +1,8 @@
 use borrow.Author.Tests.{eq-eqb, ne-eqb}
-use Rattle.facts.specs.Codes.{sideOf, sideNumber}
-use Rattle.facts.proofs.Codes.{side-number, spelled-if}
-use Rattle.facts.proofs.side_of.Statement.{statement}
-use Rattle.facts.proofs.side_of.Tie as tie
+use Rattle.codes.specs.Codes.{sideOf, sideNumber}
+use Rattle.codes.proofs.Codes.{side-number, spelled-if}
+use Rattle.codes.proofs.side_of.Statement.{statement}
+use Rattle.codes.proofs.side_of.Tie as tie
 
 returns : tie.Need-returns
 unfolding sideOf

@@ -1,8 +1,8 @@
 use borrow.Author.Tests.{eq-eqb, ne-eqb}
-use Rattle.facts.specs.Codes.{dayOf, dayNumber}
-use Rattle.facts.proofs.Codes.{day-number, spelled-if}
-use Rattle.facts.proofs.day_of.Statement.{statement}
-use Rattle.facts.proofs.day_of.Tie as tie
+use Rattle.codes.specs.Codes.{dayOf, dayNumber}
+use Rattle.codes.proofs.Codes.{day-number, spelled-if}
+use Rattle.codes.proofs.day_of.Statement.{statement}
+use Rattle.codes.proofs.day_of.Tie as tie
 
 returns : tie.Need-returns
 unfolding dayOf

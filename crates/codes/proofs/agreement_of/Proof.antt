@@ -1,8 +1,8 @@
 use borrow.Author.Tests.{eq-eqb, ne-eqb}
-use Rattle.facts.specs.Codes.{agreementOf, agreementNumber}
-use Rattle.facts.proofs.Codes.{agreement-number, spelled-if}
-use Rattle.facts.proofs.agreement_of.Statement.{statement}
-use Rattle.facts.proofs.agreement_of.Tie as tie
+use Rattle.codes.specs.Codes.{agreementOf, agreementNumber}
+use Rattle.codes.proofs.Codes.{agreement-number, spelled-if}
+use Rattle.codes.proofs.agreement_of.Statement.{statement}
+use Rattle.codes.proofs.agreement_of.Tie as tie
 
 returns : tie.Need-returns
 unfolding agreementOf

@@ -1,8 +1,8 @@
 use borrow.Author.Tests.{eq-eqb, ne-eqb}
-use Rattle.facts.specs.Codes.{kindOf, kindNumber}
-use Rattle.facts.proofs.Codes.{kind-number, spelled-if}
-use Rattle.facts.proofs.kind_of.Statement.{statement}
-use Rattle.facts.proofs.kind_of.Tie as tie
+use Rattle.codes.specs.Codes.{kindOf, kindNumber}
+use Rattle.codes.proofs.Codes.{kind-number, spelled-if}
+use Rattle.codes.proofs.kind_of.Statement.{statement}
+use Rattle.codes.proofs.kind_of.Tie as tie
 
 returns : tie.Need-returns
 unfolding kindOf

@@ -1,7 +1,7 @@
 use borrow.Author.Tests.{eq-eqb, ne-eqb}
-use Rattle.facts.specs.Codes.{flagOf}
-use Rattle.facts.proofs.flag_of.Statement.{statement}
-use Rattle.facts.proofs.flag_of.Tie as tie
+use Rattle.codes.specs.Codes.{flagOf}
+use Rattle.codes.proofs.flag_of.Statement.{statement}
+use Rattle.codes.proofs.flag_of.Tie as tie
 
 returns : tie.Need-returns
 unfolding flagOf

@@ -1,32 +1,13 @@
--- A number read and spelled again is the number; a case spelled and read again is the case.
+-- A listed byte read and spelled again is the byte; a case spelled and read again is the case.
 use Prim.Native.Nat.{ℕ}
-use mathlib.Core.Path.{_≡_, refl, sym, ap, _∙_}
+use mathlib.Core.Path.{_≡_, refl, ap, _∙_}
 use mathlib.Core.Bool.{Bool, true, false}
-use lib.Dec.{eqb}
-use borrow.Author.Tests.{eqb-true}
-use Rattle.wire.specs.Tests.{pick, inRange}
+use Rattle.wire.specs.Tests.{inRange}
 use Rattle.wire.proofs.Tests.{each-listed}
-use Rattle.facts.specs.Words.{None, At, Never, After, Side, Buy, Sell, Kind, Customer, MarketMaker, Other, Day, TradeDate, NextDay, Later, Agreement, NotMade, OnPrice, ToNullify}
-use Rattle.facts.specs.Codes.{mills, seconds, priceOf, priceNumber, momentOf, momentNumber, sideOf, sideNumber, kindOf, kindNumber, dayOf, dayNumber, agreementOf, agreementNumber, flagOf, flagNumber}
+use Rattle.codes.specs.Words.{Side, Buy, Sell, Kind, Customer, MarketMaker, Other, Day, TradeDate, NextDay, Later, Agreement, NotMade, OnPrice, ToNullify}
+use Rattle.codes.specs.Codes.{sideOf, sideNumber, kindOf, kindNumber, dayOf, dayNumber, agreementOf, agreementNumber, flagOf, flagNumber}
 
--- ---- numbers read and spelled again: of any number for what may be none, of a listed byte for a code
-
--- a mark k for `none`, and `some n` at every other number
-marked : {A : Type 0} (number : A → ℕ) (none : A) (some : ℕ → A) (k n : ℕ) → number none ≡ k → number (some n) ≡ n
-    → number (pick (eqb n k) none (some n)) ≡ n
-marked number none some k n e f = by-test (eqb n k) refl where
-  by-test : (t : Bool) → eqb n k ≡ t → number (pick t none (some n)) ≡ n
-  by-test true h = e ∙ sym (eqb-true n k h)
-  by-test false h = f
-
-pub price-number : (n : ℕ) → priceNumber (priceOf n) ≡ n
-unfolding priceOf
-price-number n = marked priceNumber None (λ k. At (mills k)) 4294967295 n refl refl
-
-pub moment-number : (n : ℕ) → momentNumber (momentOf n) ≡ n
-unfolding momentOf
-moment-number n = marked momentNumber Never (λ k. After (seconds k)) 4294967295 n refl refl
-
+-- ---- bytes read and spelled again
 pub side-number : (b : ℕ) → inRange 1 2 b ≡ true → sideNumber (sideOf b) ≡ b
 unfolding sideOf
 side-number = each-listed (λ b. sideNumber (sideOf b) ≡ b) 1 1 (refl, refl)
@@ -105,10 +86,7 @@ unfolding inRange
 flag-listed true = refl
 flag-listed false = refl
 
--- ---- an answer that is a case, with the number that the page gives it
-pub spelled : {A : Type 0} {r a : A} {b : ℕ} (number : A → ℕ) → number a ≡ b → r ≡ a → (r ≡ a) × (number r ≡ b)
-spelled number f e = (e, ap number e ∙ f)
-
+-- ---- an answer that is a case, with the number that the page gives it where the byte is listed
 pub spelled-if : {A : Type 0} {r a : A} {b : ℕ} {listed : Type 0} (number : A → ℕ) → (listed → number a ≡ b) → r ≡ a
     → (r ≡ a) × (listed → number r ≡ b)
 spelled-if number f e = (e, λ h. ap number e ∙ f h)

@@ -1,10 +1,10 @@
-use Rattle.ruling.specs.Reasons.{reasonOutcome}
+use Rattle.reasons.specs.Reasons.{reasonOutcome}
 use Rattle.wire.specs.Tests.{inRange}
 use Rattle.wire.proofs.Tests.{ranges, range-low, range-high}
 use native.Mathlib.Omega.{arith}
 use borrow.Author.Tests.{ne-eqb}
-use Rattle.ruling.proofs.outcome_of.Statement.{statement}
-use Rattle.ruling.proofs.outcome_of.Tie as tie
+use Rattle.reasons.proofs.outcome_of.Statement.{statement}
+use Rattle.reasons.proofs.outcome_of.Tie as tie
 
 returns : tie.Need-returns
 unfolding reasonOutcome inRange
