@@ -1,6 +1,5 @@
 -- An acceptance that no step asks for is ignored (RULE R2.10): it is asked for where a Customer's limit stops the catastrophic price, and
 -- the ruling then has reason 9 or 12.
-use Prim.Native.Nat.{ℕ}
 use mathlib.Core.Path.{_≡_, refl}
 use mathlib.Core.Bool.{Bool, true, false}
 use Rattle.wire.specs.Tests.{pick}

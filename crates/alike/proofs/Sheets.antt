@@ -1,11 +1,11 @@
 -- Demand 3 on sheets: where one party of one case differs and the case is accepted both times, only that case's answer does.
-use Prim.Native.Nat.{ℕ, zero, suc, _+_, _-_, _*_, _/_, _≤_, _<_}
+use Prim.Native.Nat.{ℕ, zero, suc, _+_, _-_, _/_, _<_}
 use mathlib.Core.Path.{_≡_, refl, sym, ap, _∙_}
 use mathlib.Core.Bool.{Bool, true, false}
 use mathlib.Core.List.{List, _++_}
-use mathlib.Core.Logic.{inl, inr, ⊎-elim}
+use mathlib.Core.Logic.{inl, inr}
 use native.Mathlib.Omega.{arith}
-use lib.ListN.{length, getD, take, drop, List·getD-eq-default}
+use lib.ListN.{length, getD, drop, List·getD-eq-default}
 use lib.Seq.{getD-take, getD-drop, ext-getD}
 use lib.Dec.{eqb, ltb}
 use borrow.Author.Tests.{eqb-true, eqb-false, ltb-true, ltb-false}
@@ -16,11 +16,11 @@ use Rattle.record.specs.Record.{factsOf}
 use Rattle.cases.specs.Cases.{readingOf}
 use Rattle.cases.proofs.Laws.{accepted-reading}
 use Rattle.answer.specs.Answer.{answerOf}
-use Rattle.alike.specs.Cases.{partyPlace, Outside, AlikeBut}
+use Rattle.alike.specs.Cases.{Outside, AlikeBut}
 use Rattle.alike.proofs.Cases.{from-48, to-64, blind}
 use Rattle.alike.specs.Words.{Reading}
 use Rattle.sheet.specs.Sheet.{startOf, caseAt, casesIn, entryBytes, ruledOne, entryOf, ruledIn, sheetOf}
-use Rattle.alike.specs.Sheets.{OutsideIn, AlikeButOne, earlier, later, OnlyCase}
+use Rattle.alike.specs.Sheets.{OutsideIn, AlikeButOne, earlier, OnlyCase}
 use Rattle.sheet.proofs.Entries.{entry-ruled, one-ruled}
 use Rattle.sheet.proofs.Whole.{case-whole, same-answer, each-by-itself}
 

@@ -1,6 +1,7 @@
 // Records brought to the desk, good and damaged, and what they get: run and compared with `stdout`, which was
 // worked out by hand from document 01 (docs/RULE.md, docs/RULEBOOK.md). Each line names the record and gives its number, 0 where it is accepted.
-ghost use Prim.Native.Nat.{_+_, _≤_, _<_};
+ghost use Prim.Native.Nat.{_≤_};
+ghost use lib.ListN.{length};
 use facts::Contracts;
 use facts::Facts;
 use facts::Mills;
@@ -50,20 +51,6 @@ fn reading_of(name: &[u8], case: &[u8]) {
 
 fn reading(name: &[u8], case: [u8; 88]) {
     reading_of(name, &case);
-}
-
-// The good record with one byte changed.
-fn with_byte(name: &[u8], at: usize, b: u8)
-    requires { ⌜ at < 88 ⌝ }
-{
-    reading(name, byte(good(), at, b));
-}
-
-// The good record with a four-byte number changed.
-fn with_word(name: &[u8], at: usize, n: u32)
-    requires { ⌜ at + 4 ≤ 88 ⌝ }
-{
-    reading(name, word(good(), at, n));
 }
 
 // Writes the facts into the first `room` bytes of the buffer.
@@ -127,141 +114,91 @@ fn too_long() {
     reading_of(b"89 bytes", &bytes);
 }
 
-fn heads() {
-    with_byte(b"length 89", 0, 89);
-    with_byte(b"length 344", 1, 1);
-    with_byte(b"kind 2", 2, 2);
-    reading(b"length turned", byte(byte(good(), 0, 0), 1, 88));
+// ---- rows of the table that is brought on standard input
+
+// A number in decimal; it ends before the first byte that is no digit, and before the digit that would pass four bytes.
+fn number(row: &[u8], from: usize, to: usize) -> u32
+    requires { ⌜ (from ≤ to) × (to ≤ length (now row)) ⌝ }
+{
+    let mut n: u32 = 0;
+    let mut i = from;
+    while i < to {
+        let b = row[i];
+        if b < b'0' {
+            return n;
+        }
+        if b'9' < b {
+            return n;
+        }
+        let digit = (b - b'0') as u32;
+        if (4294967295 - digit) / 10 < n {
+            return n;
+        }
+        n = n * 10 + digit;
+        i += 1;
+    }
+    n
 }
 
-fn zeros() {
-    with_byte(b"byte 36 is 1", 36, 1);
-    with_byte(b"byte 39 is 1", 39, 1);
-    with_byte(b"byte 84 is 1", 84, 1);
-    with_byte(b"byte 87 is 1", 87, 1);
+// One change more to the record: AT=N puts a four-byte number, AT.N a byte. A place outside the record is passed over.
+fn change(case: &mut [u8], row: &[u8], from: usize, to: usize)
+    requires { ⌜ (from ≤ to) × (to ≤ length (now row)) ⌝ }
+{
+    let sign = bytes::scan::find(row, from, to, b'=');
+    if sign < to {
+        let at = number(row, from, sign) as usize;
+        if at + 4 <= case.len() {
+            wire::put_u32(case, at, number(row, sign + 1, to));
+        }
+        return;
+    }
+    let point = bytes::scan::find(row, from, to, b'.');
+    if point < to {
+        let at = number(row, from, point) as usize;
+        let n = number(row, point + 1, to);
+        if at < case.len() {
+            if n < 256 {
+                case[at] = n as u8;
+            }
+        }
+    }
 }
 
-fn lists() {
-    with_byte(b"side 0", 44, 0);
-    with_byte(b"side 2", 44, 2);
-    with_byte(b"side 3", 44, 3);
-    with_byte(b"opening 2", 45, 2);
-    with_byte(b"expiry deadline 2", 46, 2);
-    with_byte(b"panel 255", 47, 255);
+// The changes of a row, each behind a bar.
+fn change_all(case: &mut [u8], row: &[u8], bar: usize)
+    requires { ⌜ bar ≤ length (now row) ⌝ }
+{
+    let mut at = bar;
+    while at < row.len() {
+        let next = bytes::scan::find(row, at + 1, row.len(), b'|');
+        change(case, row, at + 1, next);
+        at = next;
+    }
 }
 
-fn more_lists() {
-    with_byte(b"buyer of kind 0", 64, 0);
-    with_byte(b"buyer of kind 3", 64, 3);
-    with_byte(b"seller of kind 4", 65, 4);
-    with_byte(b"day 2", 66, 2);
-    with_byte(b"day 3", 66, 3);
-    with_byte(b"agreement 3", 67, 3);
+fn say_row(row: &[u8]) {
+    let bar = bytes::scan::find(row, 0, row.len(), b'|');
+    let mut case = good();
+    change_all(&mut case, row, bar);
+    reading_of(&row[..bar], &case);
 }
 
-fn codes() {
-    with_byte(b"code with '/'", 48, 47);
-    with_byte(b"code with ':'", 49, 58);
-    with_byte(b"code with '@'", 50, 64);
-    with_byte(b"code with '['", 51, 91);
-    with_byte(b"code with 'a'", 56, 97);
-    with_byte(b"code with 0", 59, 0);
-    with_word(b"both codes alike", 56, 842089025);
+fn say_rows(rows: &[u8]) {
+    let mut at = 0;
+    while at < rows.len() {
+        let end = bytes::scan::find(rows, at, rows.len(), b'\n');
+        say_row(&rows[at..end]);
+        at = end + 1;
+    }
 }
 
-fn prices() {
-    with_word(b"the March record, bid 3691315200", 20, 3691315200);
-    with_word(b"execution none", 8, NONE);
-    with_word(b"execution 10000000", 8, 10000000);
-    with_word(b"execution 9999999", 8, 9999999);
-    with_word(b"offer 10000000", 24, 10000000);
-    with_word(b"official 10000000", 40, 10000000);
-    with_word(b"official 0", 40, 0);
+fn table() {
+    let mut rows = io::buffer();
+    let n = io::read_full(0, &mut rows);
+    say_rows(&rows[..n]);
 }
 
-fn more_prices() {
-    with_word(b"buyer's limit 10000000", 52, 10000000);
-    with_word(b"buyer's limit 9999999", 52, 9999999);
-    with_word(b"seller's limit 4294967294", 60, 4294967294);
-    with_word(b"agreed 10000000 where none was made", 68, 10000000);
-}
-
-fn counts() {
-    with_word(b"0 contracts", 12, 0);
-    with_word(b"1000000 contracts", 12, 1000000);
-    with_word(b"1000001 contracts", 12, 1000001);
-    with_word(b"bid above zero of size 0", 28, 0);
-    with_word(b"offer of size 1000001", 32, 1000001);
-    with_word(b"no bid, size 20", 20, NONE);
-    reading(b"no bid, size 0", word(word(good(), 20, NONE), 28, 0));
-}
-
-fn more_counts() {
-    with_word(b"bid of zero, size 20", 20, 0);
-    reading(b"bid of zero, size 0", word(word(good(), 20, 0), 28, 0));
-    reading(
-        b"bid of zero, size 1000001",
-        word(word(good(), 20, 0), 28, 1000001),
-    );
-}
-
-fn times() {
-    with_word(b"executed at 86400", 16, 86400);
-    with_word(b"filed at 86399", 72, 86399);
-    with_word(b"filed at 86400", 72, 86400);
-    with_word(b"filed a second before execution", 72, 34199);
-    with_word(b"filed in the second of execution", 72, 34200);
-    reading(
-        b"filed earlier by the clock, day 1",
-        byte(word(good(), 72, 0), 66, 1),
-    );
-}
-
-fn more_times() {
-    with_word(b"accepted after 86400", 80, 86400);
-    with_word(b"accepted after 86401", 80, 86401);
-    with_word(b"agreement after 86401 where none was made", 76, 86401);
-}
-
-fn limits() {
-    with_word(b"execution at the buyer's limit", 52, 2000);
-    with_word(b"execution above the buyer's limit", 52, 1999);
-    with_word(b"execution at the seller's limit", 60, 2000);
-    with_word(b"execution below the seller's limit", 60, 2001);
-}
-
-fn agreements() {
-    with_word(b"a price, no agreement", 68, 1500);
-    with_word(b"1 second, no agreement", 76, 1);
-    with_byte(b"on a price, none there", 67, 1);
-    reading(b"on a price, at once", byte(word(good(), 68, 1500), 67, 1));
-    with_byte(b"to nullify, at once", 67, 2);
-    reading(
-        b"to nullify, a price there",
-        byte(word(good(), 68, 1500), 67, 2),
-    );
-}
-
-// Two faults at once, or more: the table's order decides.
-fn orders() {
-    reading(b"2 before 3", byte(byte(good(), 36, 1), 2, 2));
-    reading(b"3 before 4", byte(byte(good(), 48, 0), 44, 0));
-    reading(b"4 before 5", byte(word(good(), 8, NONE), 59, 32));
-    reading(b"5 before 6", word(word(good(), 12, 0), 8, NONE));
-    reading(b"6 before 7", word(word(good(), 16, 86400), 12, 0));
-    reading(b"7 before 8", word(word(good(), 52, 1), 72, 0));
-    reading(b"8 before 9", word(word(good(), 76, 1), 52, 1999));
-}
-
-fn more_orders() {
-    reading(
-        b"3 to 9 at once",
-        word(
-            word(word(byte(byte(good(), 47, 9), 48, 33), 8, NONE), 12, 0),
-            72,
-            1,
-        ),
-    );
+fn whole() {
     reading(b"88 bytes of 0", [0u8; 88]);
     reading(b"88 bytes of 255", [255u8; 88]);
 }
@@ -309,21 +246,8 @@ fn refused_writings() {
 fn main() {
     lengths();
     too_long();
-    heads();
-    zeros();
-    lists();
-    more_lists();
-    codes();
-    prices();
-    more_prices();
-    counts();
-    more_counts();
-    times();
-    more_times();
-    limits();
-    agreements();
-    orders();
-    more_orders();
+    table();
+    whole();
     writings();
     refused_writings();
 }

@@ -2,7 +2,6 @@
 use Prim.Native.Nat.{ℕ, zero, suc, _+_, _/_}
 use mathlib.Core.Path.{_≡_, refl, sym, ap, _∙_}
 use mathlib.Core.List.{List}
-use lib.ListN.{length}
 use Rattle.wire.specs.Laid.{row}
 use Rattle.wire.proofs.Rows.{row-same}
 use Rattle.cases.specs.Cases.{readingOf}
