@@ -140,7 +140,7 @@ fn number(row: &[u8], from: usize, to: usize) -> u32
     n
 }
 
-// One change more to the record: AT=N puts a four-byte number, AT.N a byte. A place outside the record is passed over.
+// One change more to the record: AT=N puts a four-byte number, AT.N a byte. What is neither, or is outside the record, is told.
 fn change(case: &mut [u8], row: &[u8], from: usize, to: usize)
     requires { ⌜ (from ≤ to) × (to ≤ length (now row)) ⌝ }
 {
@@ -149,8 +149,8 @@ fn change(case: &mut [u8], row: &[u8], from: usize, to: usize)
         let at = number(row, from, sign) as usize;
         if at + 4 <= case.len() {
             wire::put_u32(case, at, number(row, sign + 1, to));
+            return;
         }
-        return;
     }
     let point = bytes::scan::find(row, from, to, b'.');
     if point < to {
@@ -159,9 +159,11 @@ fn change(case: &mut [u8], row: &[u8], from: usize, to: usize)
         if at < case.len() {
             if n < 256 {
                 case[at] = n as u8;
+                return;
             }
         }
     }
+    say(b"(no change) ");
 }
 
 // The changes of a row, each behind a bar.
