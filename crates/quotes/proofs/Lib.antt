@@ -1,0 +1,4 @@
+pub mod Sides
+pub mod Records
+pub mod Accepted
+pub mod Exact
