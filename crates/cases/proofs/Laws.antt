@@ -77,8 +77,11 @@ module _ (s : List ℕ) where
   pub accepted-reading : readingOf s .refusal ≡ 0 → readingOf s ≡ accepted (factsOf s)
   accepted-reading e = accepted-at (accepts e)
 
+  pub passed-facts : refusalOf s ≡ 0 → faultOf (factsOf s) ≡ 0
+  passed-facts e = sym (simp (eq-eqb (formFaultOf s) 0 (passed-form e)) at in-order) ∙ e
+
   pub accepted-facts : readingOf s .refusal ≡ 0 → faultOf (factsOf s) ≡ 0
-  accepted-facts e = sym (simp (eq-eqb (formFaultOf s) 0 (accepted-form e)) at in-order) ∙ accepts e
+  accepted-facts e = passed-facts (accepts e)
 
 -- ---- writing
 module _ (f : Facts) (room : ℕ) where

@@ -23,11 +23,11 @@ use Rattle.cases.specs.Cases.{Held}
 below : (n k : ℕ) → leb n k ≡ true → T (ltb k 4294967296) → n < 4294967296
 below n k h t = lt-of-le-of-lt (leb-true n k h) (lit< t)
 
-price-fits : (p : Price) → priceOk p ≡ true → priceNumber p < 4294967296
+pub price-fits : (p : Price) → priceOk p ≡ true → priceNumber p < 4294967296
 price-fits (At m) h = below (m .0) 9999999 h tt
 price-fits None h = lit< tt
 
-price-again : (p : Price) → priceOk p ≡ true → priceOf (priceNumber p) ≡ p
+pub price-again : (p : Price) → priceOk p ≡ true → priceOf (priceNumber p) ≡ p
 unfolding priceOf
 price-again (At m) h = simp (ne-eqb (m .0) 4294967295 (λ e. omega (arith, leb-true (m .0) 9999999 h)))
 price-again None h = refl
@@ -41,7 +41,7 @@ unfolding momentOf
 moment-again (After t) h = simp (ne-eqb (t .0) 4294967295 (λ e. omega (arith, leb-true (t .0) 86400 h)))
 moment-again Never h = refl
 
-size-fits : (p : Price) (n : Contracts) → quoteOk p n ≡ true → n .0 < 4294967296
+pub size-fits : (p : Price) (n : Contracts) → quoteOk p n ≡ true → n .0 < 4294967296
 size-fits (At m) n h = below (n .0) 1000000 (both-true (leb (n .0) 1000000) (eqb (m .0) 0 || leb 1 (n .0)) h .0) tt
 size-fits None n h = omega (arith, eqb-true (n .0) 0 h)
 
