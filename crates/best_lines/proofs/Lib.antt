@@ -1,0 +1,4 @@
+pub mod Parts
+pub mod Lengths
+pub mod Shown
+pub mod Exact

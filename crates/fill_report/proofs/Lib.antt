@@ -1,0 +1,4 @@
+pub mod Lines
+pub mod Turns
+pub mod Lengths
+pub mod Exact

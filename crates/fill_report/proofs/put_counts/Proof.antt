@@ -1,0 +1,59 @@
+use mathlib.Core.Path.{sym}
+use mathlib.Core.List.{[], _∷_, _++_, append-assoc}
+use Rattle.text.specs.Text.{letters, decimalOf}
+use native.Mathlib.Omega.{arith}
+use Rattle.text.proofs.Placed.{ran-first, ran-next}
+use Rattle.fill_report.specs.Told.{countLine}
+use Rattle.fill_report.proofs.Lines.{as-text}
+use borrow.Author.Needs.{needs}
+use Rattle.fill_report.proofs.put_counts.Statement.{statement}
+use Rattle.fill_report.proofs.put_counts.Tie as tie
+
+add-decimal-requires : tie.Need-add-decimal-requires
+add-decimal-requires c κs = search needs
+
+slice-aggregate-add-word : tie.Need-slice-aggregate-add-word
+slice-aggregate-add-word c = search needs
+
+add-word-requires : tie.Need-add-word-requires
+add-word-requires c κs = search needs
+
+add-decimal-requires-2 : tie.Need-add-decimal-requires-2
+add-decimal-requires-2 c κs = search needs
+
+slice-aggregate-add-word-2 : tie.Need-slice-aggregate-add-word-2
+slice-aggregate-add-word-2 c = search needs
+
+add-word-requires-2 : tie.Need-add-word-requires-2
+add-word-requires-2 c κs = search needs
+
+same-length : tie.Need-same-length
+same-length c = search needs
+
+returns : tie.Need-returns
+unfolding countLine
+returns c =
+    let c4 = c .before .before in
+    let c3 = c4 .before .before .before .before .before in
+    let c2 = c3 .before .before .before .before in
+    let c1 = c2 .before .before .before .before .before in
+    let r1 = ran-first _ _ _ _ (c1 .add-decimal .ensures .0) (c1 .add-decimal .ensures .1) in
+    let r2 = ran-next _ _ _ _ _ _ _ r1 (c2 .add-word .ensures .0) (c2 .add-word .ensures .1) in
+    let r3 = ran-next _ _ _ _ _ _ _ r2 (c3 .add-decimal2 .ensures .0) (c3 .add-decimal2 .ensures .1) in
+    let r4 = ran-next _ _ _ _ _ _ _ r3 (c4 .add-word2 .ensures .0) (c4 .add-word2 .ensures .1) in
+    let a = c1 .before .before .before .args in
+    let r = as-text _ _ _ _ _ (sym (append-assoc (decimalOf (a .filled) ++ letters " filled, " ++ decimalOf (a .left)) (letters " left") (10 ∷ []))) r4 in
+    (r .0, r .1, omega (arith, c4 .add-word2 .ensures .0))
+
+pub put-counts-spec : {M : Type 1} → statement M
+put-counts-spec =
+    tie.close
+    (tie.spec
+    add-decimal-requires
+    slice-aggregate-add-word
+    add-word-requires
+    add-decimal-requires-2
+    slice-aggregate-add-word-2
+    add-word-requires-2
+    same-length
+    returns)

@@ -1,0 +1,4 @@
+pub mod Digits
+pub mod Times
+pub mod Dollars
+pub mod Exact

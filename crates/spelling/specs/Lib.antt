@@ -1,0 +1,3 @@
+pub mod Words
+pub mod Times
+pub mod Dollars

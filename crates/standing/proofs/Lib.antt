@@ -1,0 +1,6 @@
+pub mod Turns
+pub mod Answers
+pub mod Lengths
+pub mod Sums
+pub mod Lasting
+pub mod Exact
