@@ -2,8 +2,8 @@
  * `rt staticlib desk` writes; they are proved to keep what is said here.
  *
  * They ask nothing of the caller but valid pointers, each to as many bytes as its length says, and buffers that do not
- * overlap. Beside a length of 0 the pointer may be NULL. Any bytes may be given: what is not a case or a sheet gets the
- * number of the first test that it fails. They keep no state and allocate nothing. */
+ * overlap. Beside a length of 0 the pointer may be NULL. Any bytes may be given: what is not a case, a sheet or a list of
+ * quotes gets the number of the first test that it fails. They keep no state and allocate nothing. */
 #ifndef DESK_H
 #define DESK_H
 
@@ -16,14 +16,17 @@ extern "C" {
 
 /* ---- Lengths */
 
-#define DESK_CASE_BYTES 88u     /* a case record */
-#define DESK_RULING_BYTES 32u   /* a ruling */
-#define DESK_NOTICE_BYTES 32u   /* a notice */
-#define DESK_ANSWER_BYTES 96u   /* a ruling and two notices */
-#define DESK_REFUSED_BYTES 12u  /* a refused case of a sheet */
-#define DESK_SHEET_CASES 600u   /* the most cases of a sheet */
-#define DESK_SHEET_BYTES 52800u /* the longest sheet: 600 cases */
-#define DESK_TEXT_BYTES 65536u  /* room for the text of any sheet */
+#define DESK_CASE_BYTES 88u      /* a case record */
+#define DESK_RULING_BYTES 32u    /* a ruling */
+#define DESK_NOTICE_BYTES 32u    /* a notice */
+#define DESK_ANSWER_BYTES 96u    /* a ruling and two notices */
+#define DESK_REFUSED_BYTES 12u   /* a refused case of a sheet */
+#define DESK_SHEET_CASES 600u    /* the most cases of a sheet */
+#define DESK_SHEET_BYTES 52800u  /* the longest sheet: 600 cases */
+#define DESK_TEXT_BYTES 65536u   /* room for the text of any sheet */
+#define DESK_QUOTE_BYTES 28u     /* a quote record */
+#define DESK_QUOTES 2000u        /* the most quotes of a list */
+#define DESK_QUOTES_BYTES 56000u /* the longest list: 2,000 quotes */
 
 /* ---- All records. Every number stands lowest byte first. DESK_.._AT_.. is where a field begins; its comment says how long it
  * is and what it holds. */
@@ -35,6 +38,7 @@ extern "C" {
 #define DESK_KIND_RULING 16u
 #define DESK_KIND_NOTICE 17u
 #define DESK_KIND_REFUSED 18u
+#define DESK_KIND_QUOTE 32u
 
 #define DESK_NONE 4294967295u /* the mark "none", of a price and of an acceptance */
 
@@ -87,6 +91,18 @@ extern "C" {
 #define DESK_AGREED_NOTHING 0u
 #define DESK_AGREED_PRICE 1u
 #define DESK_AGREED_NULLIFY 2u
+
+/* ---- The quote record: what an exchange sent, and when. A list of quotes is a row of them in the order of their times. Prices,
+ * sizes and times are as in a case. */
+
+#define DESK_QUOTE_AT_EXCHANGE 4u    /* 4: exchange number, 1 to DESK_EXCHANGES */
+#define DESK_QUOTE_AT_TIME 8u        /* 4: time, 0 to DESK_LAST_SECOND */
+#define DESK_QUOTE_AT_BID 12u        /* 4: bid, or none */
+#define DESK_QUOTE_AT_OFFER 16u      /* 4: offer, or none */
+#define DESK_QUOTE_AT_BID_SIZE 20u   /* 4: bid size, 0 to DESK_MOST_CONTRACTS; 0 if no bid, 1 or more if the bid is above 0 */
+#define DESK_QUOTE_AT_OFFER_SIZE 24u /* 4: offer size, likewise */
+
+#define DESK_EXCHANGES 16u
 
 /* ---- The answer to a ruled case: three records of 32 bytes. */
 
@@ -157,6 +173,10 @@ extern "C" {
 #define DESK_REFUSAL_AGREEMENT 9u          /* the agreement's fields contradict byte 67 */
 #define DESK_REFUSAL_SHEET_LENGTH 10u      /* the sheet isn't a whole number of cases, or has more than 600 */
 #define DESK_REFUSAL_ANSWER_BUFFER 11u     /* the answer buffer is under 96 bytes (case) or 96 per case (sheet) */
+#define DESK_REFUSAL_QUOTES_LENGTH 20u     /* the list isn't a whole number of quotes, or has more than 2,000 */
+#define DESK_REFUSAL_QUOTE_FIELD 21u       /* a field of a quote is bad: length, kind, exchange, time, a price or a size */
+#define DESK_REFUSAL_QUOTE_ORDER 22u       /* a quote's time is before that of the quote before it */
+#define DESK_REFUSAL_TRADE_TIME 23u        /* the trade's time is above DESK_LAST_SECOND */
 
 /* ---- The functions */
 
@@ -166,6 +186,16 @@ struct desk_sheet {
     uint64_t written; /* bytes written */
     uint64_t ruled;   /* cases answered with 96 bytes */
     uint64_t refused; /* cases answered with 12 bytes */
+};
+
+/* What looking up quotes gives back: prices are in mills or DESK_NONE, and none has size 0. If the list or the time is refused,
+ * `refusal` is the number (20 to 23), both prices are DESK_NONE and both sizes 0. */
+struct desk_best {
+    uint64_t refusal;    /* 0 if the quotes are looked up */
+    uint64_t bid;        /* the best bid */
+    uint64_t offer;      /* the best offer */
+    uint64_t bid_size;   /* the sum of sizes at the best bid, at most DESK_MOST_CONTRACTS */
+    uint64_t offer_size; /* the same at the best offer */
 };
 
 /* Reads a case: 0 if it is accepted, else the number of the first test that fails (1, then 2 to 9). */
@@ -182,6 +212,16 @@ struct desk_sheet desk_rule_sheet(const uint8_t *sheet, size_t len, uint8_t *out
 /* Prints the rulings of a sheet at `out`, as lines of text, and gives the bytes of text. No zero byte ends them; the bytes
  * after them are kept. A sheet refused whole prints one line that says so. */
 uint64_t desk_print_sheet(const uint8_t *sheet, size_t len, uint8_t (*out)[DESK_TEXT_BYTES]);
+
+/* Looks up the best bid and offer at a trade: of each exchange the last quote strictly before `trade_time` counts, the later
+ * record of one second; the highest bid and the lowest offer among them are given, each with the sum of the sizes at it. An
+ * exchange whose last bid is none has no say on the bid, and likewise on the offer. An empty list gives none. */
+struct desk_best desk_best_quotes(const uint8_t *quotes, size_t len, uint32_t trade_time);
+
+/* Fills the best bid and offer at a case's execution into the case: 0, and DESK_CASE_AT_BID to DESK_CASE_AT_OFFER_SIZE (bytes 20
+ * to 35 of `record`) written, every other byte kept; or the number of the first test that fails (1, 2 to 9, then 20 to 22), and
+ * `record` as it was. */
+uint32_t desk_fill_case(const uint8_t *quotes, size_t len, uint8_t *record, size_t record_len);
 
 #ifdef __cplusplus
 }

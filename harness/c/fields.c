@@ -1,5 +1,5 @@
-/* Every field of a case record, written under the header's names, each with a value of its own: the test compares the 88 bytes
- * with those of the harness's own record. */
+/* Every field of a case record and of a quote, written under the header's names, each with a value of its own: the test compares
+ * the 88 and the 28 bytes with those of the harness's own records. */
 
 #include <stdio.h>
 #include <string.h>
@@ -7,11 +7,9 @@
 #include "desk.h"
 #include "numbers.h"
 
-int main(void)
+static void put_case(uint8_t record[DESK_CASE_BYTES])
 {
-    uint8_t record[DESK_CASE_BYTES];
-
-    memset(record, 255, sizeof record);
+    memset(record, 255, DESK_CASE_BYTES);
     put_u16(record + DESK_AT_LENGTH, DESK_CASE_BYTES);
     put_u16(record + DESK_AT_KIND, DESK_KIND_CASE);
     put_u32(record + DESK_CASE_AT_TRADE, 101);
@@ -41,8 +39,28 @@ int main(void)
     put_u32(record + DESK_CASE_AT_AGREED_AFTER, DESK_MOST_AFTER);
     put_u32(record + DESK_CASE_AT_ACCEPTED_AFTER, 109);
     put_u32(record + DESK_CASE_AT_LAST_ZERO, 0);
+}
 
-    if (fwrite(record, 1, sizeof record, stdout) != sizeof record || fflush(stdout) != 0) {
+static void put_quote(uint8_t record[DESK_QUOTE_BYTES])
+{
+    memset(record, 255, DESK_QUOTE_BYTES);
+    put_u16(record + DESK_AT_LENGTH, DESK_QUOTE_BYTES);
+    put_u16(record + DESK_AT_KIND, DESK_KIND_QUOTE);
+    put_u32(record + DESK_QUOTE_AT_EXCHANGE, DESK_EXCHANGES);
+    put_u32(record + DESK_QUOTE_AT_TIME, DESK_LAST_SECOND);
+    put_u32(record + DESK_QUOTE_AT_BID, 201);
+    put_u32(record + DESK_QUOTE_AT_OFFER, 202);
+    put_u32(record + DESK_QUOTE_AT_BID_SIZE, 203);
+    put_u32(record + DESK_QUOTE_AT_OFFER_SIZE, 204);
+}
+
+int main(void)
+{
+    uint8_t records[DESK_CASE_BYTES + DESK_QUOTE_BYTES];
+
+    put_case(records);
+    put_quote(records + DESK_CASE_BYTES);
+    if (fwrite(records, 1, sizeof records, stdout) != sizeof records || fflush(stdout) != 0) {
         fputs("standard output cannot be written\n", stderr);
         return 2;
     }

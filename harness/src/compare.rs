@@ -9,7 +9,7 @@ use crate::fields::Fields;
 use crate::random::Random;
 
 /// A difference, told in full: `expect` in a test prints it as it is.
-pub struct Difference(String);
+pub struct Difference(pub(crate) String);
 
 impl fmt::Debug for Difference {
     fn fmt(&self, out: &mut fmt::Formatter) -> fmt::Result {
@@ -53,7 +53,7 @@ impl Buffers {
     }
 }
 
-fn same_bytes(what: &str, left: &[u8], right: &[u8]) -> Result<(), String> {
+pub(crate) fn same_bytes(what: &str, left: &[u8], right: &[u8]) -> Result<(), String> {
     if left == right {
         return Ok(());
     }
@@ -66,7 +66,7 @@ fn same_bytes(what: &str, left: &[u8], right: &[u8]) -> Result<(), String> {
     ))
 }
 
-fn same<T: PartialEq + fmt::Debug>(what: &str, left: T, right: T) -> Result<T, String> {
+pub(crate) fn same<T: PartialEq + fmt::Debug>(what: &str, left: T, right: T) -> Result<T, String> {
     if left == right {
         Ok(left)
     } else {
@@ -193,7 +193,7 @@ impl<'a> Comparison<'a> {
 /// A difference shows this many cases of a sheet; the seed gives the rest.
 const CASES_SHOWN: usize = 16;
 
-fn hex(bytes: &[u8]) -> String {
+pub(crate) fn hex(bytes: &[u8]) -> String {
     bytes.iter().fold(String::new(), |mut text, byte| {
         let _ = write!(text, "{byte:02x}");
         text

@@ -1,4 +1,4 @@
-//! The proved desk: the four C functions of `target/staticlib/libdesk.a` (`include/desk.h`) behind
+//! The proved desk: the six C functions of `target/staticlib/libdesk.a` (`include/desk.h`) behind
 //! a safe interface. All `unsafe` of the harness is here.
 
 use std::ptr;
@@ -15,6 +15,15 @@ pub const SHEET_BYTES: usize = 52_800;
 /// The bytes of text that [`print_sheet`] has room for.
 pub const TEXT_BYTES: usize = 65_536;
 
+/// A quote record.
+pub const QUOTE_BYTES: usize = 28;
+
+/// The longest list of quotes: 2,000 of them.
+pub const QUOTES_BYTES: usize = 56_000;
+
+/// The mark "none" of a price.
+pub const NONE: u32 = 4_294_967_295;
+
 /// What ruling a sheet gives back: the number of its refusal or 0, the bytes written, the cases
 /// ruled and refused.
 #[repr(C)]
@@ -26,11 +35,25 @@ pub struct DeskSheet {
     pub refused: u64,
 }
 
+/// The best bid and offer, [`NONE`] of size 0 where there is none; or the number of a refusal, and
+/// none of both.
+#[repr(C)]
+#[derive(Clone, Copy, Debug, PartialEq, Eq)]
+pub struct DeskBest {
+    pub refusal: u64,
+    pub bid: u64,
+    pub offer: u64,
+    pub bid_size: u64,
+    pub offer_size: u64,
+}
+
 unsafe extern "C" {
     fn desk_check_case(case: *const u8, len: usize) -> u32;
     fn desk_rule_case(case: *const u8, len: usize, out: *mut u8, out_len: usize) -> u32;
     fn desk_rule_sheet(sheet: *const u8, len: usize, out: *mut u8, out_len: usize) -> DeskSheet;
     fn desk_print_sheet(sheet: *const u8, len: usize, out: *mut [u8; TEXT_BYTES]) -> u64;
+    fn desk_best_quotes(quotes: *const u8, len: usize, trade_time: u32) -> DeskBest;
+    fn desk_fill_case(quotes: *const u8, len: usize, record: *mut u8, record_len: usize) -> u32;
 }
 
 /// The number that reading the case gives, 0 if it is accepted.
@@ -60,6 +83,20 @@ pub fn print_sheet(sheet: &[u8], out: &mut [u8; TEXT_BYTES]) -> u64 {
     unsafe { desk_print_sheet(sheet.as_ptr(), sheet.len(), out) }
 }
 
+/// The best bid and offer among each exchange's last quote before the trade.
+pub fn best_quotes(quotes: &[u8], trade_time: u32) -> DeskBest {
+    // SAFETY: the pointer and the length are those of one live slice, which is only read.
+    unsafe { desk_best_quotes(quotes.as_ptr(), quotes.len(), trade_time) }
+}
+
+/// Fills the best bid and offer at the case's execution into the case; the number of its or the
+/// quotes' refusal, 0 if it is filled.
+pub fn fill_case(quotes: &[u8], case: &mut [u8]) -> u32 {
+    // SAFETY: each pointer and length are those of one live slice; `case` is lent exclusively, so
+    // the two do not overlap.
+    unsafe { desk_fill_case(quotes.as_ptr(), quotes.len(), case.as_mut_ptr(), case.len()) }
+}
+
 /// The same calls with NULL beside a length of 0, as a C program may make them: Rust's own empty
 /// slices point somewhere.
 pub mod null {
@@ -81,7 +118,7 @@ pub mod null {
         }
     }
 
-    // SAFETY, of all four: a pointer and a length are those of one live slice, or NULL and 0, which
+    // SAFETY, of all six: a pointer and a length are those of one live slice, or NULL and 0, which
     // `include/desk.h` permits; what is written to is lent exclusively.
 
     pub fn check_case(case: &[u8]) -> u32 {
@@ -98,5 +135,13 @@ pub mod null {
 
     pub fn print_sheet(sheet: &[u8], out: &mut [u8; TEXT_BYTES]) -> u64 {
         unsafe { desk_print_sheet(pointer(sheet), sheet.len(), out) }
+    }
+
+    pub fn best_quotes(quotes: &[u8], trade_time: u32) -> DeskBest {
+        unsafe { desk_best_quotes(pointer(quotes), quotes.len(), trade_time) }
+    }
+
+    pub fn fill_case(quotes: &[u8], case: &mut [u8]) -> u32 {
+        unsafe { desk_fill_case(pointer(quotes), quotes.len(), pointer_mut(case), case.len()) }
     }
 }

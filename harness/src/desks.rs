@@ -1,6 +1,6 @@
 //! What the proved and the plain desk have in common, so that they can be compared call by call.
 
-use crate::desk::{self, DeskSheet, TEXT_BYTES};
+use crate::desk::{self, DeskBest, DeskSheet, TEXT_BYTES};
 use crate::page;
 
 /// A desk: numbers are those of the page, 0 where nothing is refused.
@@ -10,6 +10,14 @@ pub trait Desk {
     fn rule_case(&self, case: &[u8], out: &mut [u8]) -> u32;
     fn rule_sheet(&self, sheet: &[u8], out: &mut [u8]) -> DeskSheet;
     fn print_sheet(&self, sheet: &[u8], out: &mut [u8; TEXT_BYTES]) -> u64;
+}
+
+/// What a desk makes of a list of quotes; apart from [`Desk`], so that a mutant is compiled for the
+/// calls it is compared in and no others.
+pub trait QuoteDesk {
+    fn name(&self) -> &str;
+    fn best_quotes(&self, quotes: &[u8], trade_time: u32) -> DeskBest;
+    fn fill_case(&self, quotes: &[u8], case: &mut [u8]) -> u32;
 }
 
 /// The static library.
@@ -37,6 +45,20 @@ impl Desk for Proved {
     }
 }
 
+impl QuoteDesk for Proved {
+    fn name(&self) -> &str {
+        "proved"
+    }
+
+    fn best_quotes(&self, quotes: &[u8], trade_time: u32) -> DeskBest {
+        desk::best_quotes(quotes, trade_time)
+    }
+
+    fn fill_case(&self, quotes: &[u8], case: &mut [u8]) -> u32 {
+        desk::fill_case(quotes, case)
+    }
+}
+
 /// The static library, called with NULL wherever a length is 0.
 pub struct ProvedOnNull;
 
@@ -59,6 +81,20 @@ impl Desk for ProvedOnNull {
 
     fn print_sheet(&self, sheet: &[u8], out: &mut [u8; TEXT_BYTES]) -> u64 {
         desk::null::print_sheet(sheet, out)
+    }
+}
+
+impl QuoteDesk for ProvedOnNull {
+    fn name(&self) -> &str {
+        "proved, on NULL"
+    }
+
+    fn best_quotes(&self, quotes: &[u8], trade_time: u32) -> DeskBest {
+        desk::null::best_quotes(quotes, trade_time)
+    }
+
+    fn fill_case(&self, quotes: &[u8], case: &mut [u8]) -> u32 {
+        desk::null::fill_case(quotes, case)
     }
 }
 
@@ -109,4 +145,37 @@ macro_rules! desk_of_page {
     };
 }
 
+/// Makes `$desk`, a type, the desk of the module `$page` for quotes.
+#[macro_export]
+macro_rules! quote_desk_of_page {
+    ($desk:ident, $page:ident, $name:expr) => {
+        impl $crate::desks::QuoteDesk for $desk {
+            fn name(&self) -> &str {
+                $name
+            }
+
+            fn best_quotes(&self, quotes: &[u8], trade_time: u32) -> $crate::desk::DeskBest {
+                let (refusal, bid, offer) = match $page::best_quotes(quotes, trade_time) {
+                    Ok(best) => (0, best.bid, best.offer),
+                    Err(refusal) => (u64::from(refusal.number()), None, None),
+                };
+                let none = u64::from($crate::desk::NONE);
+                $crate::desk::DeskBest {
+                    refusal,
+                    bid: bid.map_or(none, |quote| u64::from(quote.price.0)),
+                    offer: offer.map_or(none, |quote| u64::from(quote.price.0)),
+                    bid_size: bid.map_or(0, |quote| u64::from(quote.size.0)),
+                    offer_size: offer.map_or(0, |quote| u64::from(quote.size.0)),
+                }
+            }
+
+            fn fill_case(&self, quotes: &[u8], case: &mut [u8]) -> u32 {
+                $page::fill_case(quotes, case)
+                    .map_or_else(|refusal| u32::from(refusal.number()), |()| 0)
+            }
+        }
+    };
+}
+
 desk_of_page!(Plain, page, "plain");
+quote_desk_of_page!(Plain, page, "plain");

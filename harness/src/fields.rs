@@ -1,5 +1,5 @@
-//! The 88 bytes of a case record, field by field and unjudged: what the generators set and what a
-//! difference prints.
+//! The 88 bytes of a case record and the 28 of a quote, field by field and unjudged: what the
+//! generators set and what a difference prints.
 
 use std::fmt;
 
@@ -63,61 +63,61 @@ impl Field for [u8; 4] {
     }
 }
 
-/// The record's fields, in their order and without a gap.
+/// A record's fields, in their order and without a gap.
 macro_rules! fields {
-    ($($name:ident: $kind:ty,)*) => {
+    ($fields:ident, $bytes:literal: $($name:ident: $kind:ty,)*) => {
         #[derive(Clone, Debug, PartialEq, Eq)]
-        pub struct Fields {
+        pub struct $fields {
             $(pub $name: $kind,)*
         }
 
-        impl Fields {
-            pub fn encode(&self) -> [u8; 88] {
-                let mut record = [0; 88];
+        impl $fields {
+            pub fn encode(&self) -> [u8; $bytes] {
+                let mut record = [0; $bytes];
                 let mut rest = &mut record[..];
                 $(
                     let (bytes, after) = rest.split_at_mut(size_of::<$kind>());
                     self.$name.put(bytes);
                     rest = after;
                 )*
-                assert!(rest.is_empty(), "the fields fill 88 bytes");
+                assert!(rest.is_empty(), "the fields fill the record");
                 record
             }
 
-            pub fn decode(record: &[u8; 88]) -> Fields {
+            pub fn decode(record: &[u8; $bytes]) -> $fields {
                 let mut rest = &record[..];
-                let fields = Fields {
+                let fields = $fields {
                     $($name: {
                         let (bytes, after) = rest.split_at(size_of::<$kind>());
                         rest = after;
                         Field::of_bytes(bytes)
                     },)*
                 };
-                assert!(rest.is_empty(), "the fields fill 88 bytes");
+                assert!(rest.is_empty(), "the fields fill the record");
                 fields
             }
 
             /// Every number with its bytes in the other order.
-            pub fn turned(&self) -> Fields {
-                Fields { $($name: self.$name.turned(),)* }
+            pub fn turned(&self) -> $fields {
+                $fields { $($name: self.$name.turned(),)* }
             }
         }
 
-        impl fmt::Display for Fields {
+        impl fmt::Display for $fields {
             fn fmt(&self, out: &mut fmt::Formatter) -> fmt::Result {
                 let mut at = 0;
                 $(
                     writeln!(out, "  {at:>2} {:<14} {}", stringify!($name), self.$name.shown())?;
                     at += size_of::<$kind>();
                 )*
-                debug_assert_eq!(at, 88);
+                debug_assert_eq!(at, $bytes);
                 Ok(())
             }
         }
     };
 }
 
-fields! {
+fields! { Fields, 88:
     length: u16,
     kind: u16,
     trade: u32,
@@ -147,6 +147,17 @@ fields! {
     agreed_after: u32,
     accepted_after: u32,
     zero_84: u32,
+}
+
+fields! { QuoteFields, 28:
+    length: u16,
+    kind: u16,
+    exchange: u32,
+    time: u32,
+    bid: u32,
+    offer: u32,
+    bid_size: u32,
+    offer_size: u32,
 }
 
 impl Fields {
@@ -195,6 +206,28 @@ impl Fields {
             ..self.clone()
         }
     }
+}
+
+impl QuoteFields {
+    /// A good quote of exchange 1: bid 1.000 for 10, offer 1.100 for 20, ten seconds before the
+    /// execution of [`Fields::example`].
+    pub fn example() -> QuoteFields {
+        QuoteFields {
+            length: 28,
+            kind: 32,
+            exchange: 1,
+            time: 34_190,
+            bid: 1_000,
+            offer: 1_100,
+            bid_size: 10,
+            offer_size: 20,
+        }
+    }
+}
+
+/// A list of quotes as bytes.
+pub fn encode_list(quotes: &[QuoteFields]) -> Vec<u8> {
+    quotes.iter().flat_map(QuoteFields::encode).collect()
 }
 
 /// "The printer reads a sheet ...": the page's own three cases.

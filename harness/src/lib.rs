@@ -1,11 +1,13 @@
 //! The harness: an independent desk beside the proved one, and what is needed to compare the two.
 //!
-//! - [`page`]: the independent desk, written from document 01 alone;
+//! - [`page`]: the independent desk, written from document 01 and request L1 of document 02 alone;
 //! - [`desk`]: the proved desk, the static library behind a safe interface;
 //! - [`desks`]: what the two have in common;
 //! - [`fields`], [`accepted`], [`faults`], [`mixture`]: case records, good and bad;
+//! - [`lists`], [`quote_faults`]: lists of quotes, good and bad;
 //! - [`compare`], [`stream`]: the same call on two desks, once and a million times;
-//! - [`coverage`]: what a run has reached;
+//! - [`quote_compare`], [`quote_stream`]: the same of quotes;
+//! - [`coverage`], [`quote_coverage`]: what a run has reached;
 //! - [`settings`], [`random`]: seeds and numbers.
 
 #![deny(unsafe_code)]
@@ -18,8 +20,13 @@ pub mod desk;
 pub mod desks;
 pub mod faults;
 pub mod fields;
+pub mod lists;
 pub mod mixture;
 pub mod page;
+pub mod quote_compare;
+pub mod quote_coverage;
+pub mod quote_faults;
+pub mod quote_stream;
 pub mod random;
 pub mod settings;
 pub mod stream;

@@ -15,6 +15,11 @@ pub fn cases() -> u64 {
     number("DESK_CASES", CASES)
 }
 
+/// How many lists of quotes it makes: one for each ten cases.
+pub fn lists() -> u64 {
+    cases() / 10
+}
+
 fn number(name: &str, usual: u64) -> u64 {
     match env::var(name) {
         Ok(text) => text

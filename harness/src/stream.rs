@@ -8,10 +8,11 @@ use crate::desks::Desk;
 use crate::mixture::Mixture;
 use crate::random::Random;
 
-/// A difference, and how many cases were compared before it.
+/// A difference, and how many cases or lists were compared before it.
 pub struct Found {
     pub seed: u64,
-    pub cases: u64,
+    pub compared: u64,
+    pub of: &'static str,
     pub difference: Difference,
 }
 
@@ -19,10 +20,11 @@ impl fmt::Debug for Found {
     fn fmt(&self, out: &mut fmt::Formatter) -> fmt::Result {
         let Found {
             seed,
-            cases,
+            compared,
+            of,
             difference,
         } = self;
-        write!(out, "seed {seed}, after {cases} cases: {difference:?}")
+        write!(out, "seed {seed}, after {compared} {of}: {difference:?}")
     }
 }
 
@@ -45,7 +47,8 @@ pub fn stream(
     while stream.compared < cases {
         stream.round().map_err(|difference| Found {
             seed,
-            cases: stream.compared,
+            compared: stream.compared,
+            of: "cases",
             difference,
         })?;
     }

@@ -1,13 +1,14 @@
 //! The desk from C: `c/page.c` compiles without a warning against `include/desk.h`, reads the answers
-//! under its names and prints the page's five lines; `c/fields.c` writes every field of a record. The
-//! header's numbers are those of the independent desk, and it is also good C++.
+//! under its names and prints the page's five lines; `c/quotes.c` looks up quotes and fills a case;
+//! `c/fields.c` writes every field of a record. The header's numbers are those of the independent
+//! desk, and it is also good C++.
 
 use std::fmt::Debug;
 use std::fs::{self, File};
 use std::path::{Path, PathBuf};
 use std::process::{Command, Output};
 
-use harness::fields::{Fields, NONE};
+use harness::fields::{Fields, QuoteFields, NONE};
 use harness::page::{Outcome, Reason, Refusal};
 
 const LINES: &str = "\
@@ -64,9 +65,16 @@ fn the_c_program_prints_the_page_sheet() {
     assert_eq!(unwritten.status.code(), Some(2));
 }
 
+/// It says on standard error what was answered otherwise, and then does not end with 0.
+#[test]
+fn the_c_program_looks_up_quotes_and_fills_a_case() {
+    let output = run(&mut Command::new(compiled("quotes")));
+    assert_eq!((output.stdout, output.stderr), (vec![], vec![]));
+}
+
 #[test]
 fn the_header_names_every_field_of_a_record() {
-    let expected = Fields {
+    let case = Fields {
         length: 88,
         kind: 1,
         trade: 101,
@@ -97,9 +105,23 @@ fn the_header_names_every_field_of_a_record() {
         accepted_after: 109,
         zero_84: 0,
     };
+    let quote = QuoteFields {
+        length: 28,
+        kind: 32,
+        exchange: 16,
+        time: 86_399,
+        bid: 201,
+        offer: 202,
+        bid_size: 203,
+        offer_size: 204,
+    };
     let output = run(&mut Command::new(compiled("fields")));
-    let record = output.stdout.try_into().expect("88 bytes");
-    assert_eq!(Fields::decode(&record), expected);
+    let (record, rest) = output.stdout.split_first_chunk().expect("88 bytes");
+    assert_eq!(Fields::decode(record), case);
+    assert_eq!(
+        QuoteFields::decode(rest.try_into().expect("28 bytes")),
+        quote
+    );
 }
 
 /// Does the header have that number under that name, which is the independent desk's own in C's
@@ -153,6 +175,10 @@ fn the_header_numbers_outcomes_reasons_and_refusals_as_the_page() {
         Refusal::Agreement,
         Refusal::SheetLength,
         Refusal::AnswerBuffer,
+        Refusal::QuotesLength,
+        Refusal::QuoteField,
+        Refusal::QuoteOrder,
+        Refusal::TradeTime,
     ] {
         check_number("DESK_REFUSAL", refusal, u32::from(refusal.number()));
     }

@@ -1,4 +1,4 @@
-// The desk for other programs: four functions on numbers and byte slices, in C's calling form (include/desk.h declares them). Each passes
+// The desk for other programs: six functions on numbers and byte slices, in C's calling form (include/desk.h declares them). Each passes
 // its callee's promise on in the page's numbers, and asks nothing beyond what its types say.
 ghost use mathlib.Core.Path.{_≡_};
 ghost use lib.ListN.{length};
@@ -7,7 +7,10 @@ ghost use Rattle.cases.specs.Cases.{refusalOf};
 ghost use Rattle.answer.specs.Answer.{caseOf};
 ghost use Rattle.sheet.specs.Sheet.{sheetOf};
 ghost use Rattle.report.specs.Report.{textOf};
-ghost use Rattle.desk.specs.Desk.{deskSheet};
+ghost use Rattle.best.specs.Found.{foundOf};
+ghost use Rattle.filling.specs.Filling.{fillingOf};
+ghost use Rattle.desk.specs.Desk.{deskSheet, deskBest};
+use best::Found;
 
 // What became of a sheet: the number where it was refused whole, else 0; the bytes written; the cases ruled and refused.
 #[repr(C)]
@@ -16,6 +19,16 @@ pub struct DeskSheet {
     pub written: u64,
     pub ruled: u64,
     pub refused: u64,
+}
+
+// What a lookup found: the number where it was refused, else 0; bid and offer in mills, 4,294,967,295 for none, and their sizes.
+#[repr(C)]
+pub struct DeskBest {
+    pub refusal: u64,
+    pub bid: u64,
+    pub offer: u64,
+    pub bid_size: u64,
+    pub offer_size: u64,
 }
 
 // Tests a case: its number, 0 if it is accepted.
@@ -54,4 +67,36 @@ pub extern "C" fn desk_print_sheet(sheet: &[u8], out: &mut [u8; 65536]) -> u64
     ensures { λ r. ⌜ (r ≡ length (textOf (now (sheet .entry)))) × (now (out .exit) ≡ laid (textOf (now (sheet .entry))) (now (out .entry))) ⌝ }
 {
     report::print_sheet(sheet, out) as u64
+}
+
+fn desk_best(f: Found) -> DeskBest
+    ensures { λ r. ⌜ r ≡ deskBest f ⌝ }
+{
+    let bid = f.bid;
+    let bid_price = bid.price;
+    let offer = f.offer;
+    let offer_price = offer.price;
+    DeskBest {
+        refusal: f.refusal as u64,
+        bid: facts::price_number(bid_price) as u64,
+        offer: facts::price_number(offer_price) as u64,
+        bid_size: bid.size.0 as u64,
+        offer_size: offer.size.0 as u64,
+    }
+}
+
+// Finds the best bid and offer of the exchanges' quotes at a trade.
+#[no_mangle]
+pub extern "C" fn desk_best_quotes(quotes: &[u8], trade_time: u32) -> DeskBest
+    ensures { λ r. ⌜ r ≡ deskBest (foundOf (now (quotes .entry)) «trade_time») ⌝ }
+{
+    desk_best(best::find_best(quotes, trade_time))
+}
+
+// Fills a case with the best bid and offer at its own execution time: its number, 0 if it is filled.
+#[no_mangle]
+pub extern "C" fn desk_fill_case(quotes: &[u8], case: &mut [u8]) -> u32
+    ensures { λ r. ⌜ (r ≡ fillingOf (now (quotes .entry)) (now (case .entry)) .0) × (now (case .exit) ≡ fillingOf (now (quotes .entry)) (now (case .entry)) .1) ⌝ }
+{
+    filling::fill_case(quotes, case) as u32
 }

@@ -1,24 +1,29 @@
-//! The independent desk: document 01 once more, in plain Rust.
+//! The independent desk: document 01, and request L1 of document 02, once more in plain Rust.
 //!
-//! It is written from the page alone and shares nothing with the proved desk, so that the two can
+//! It is written from these alone and shares nothing with the proved desk, so that the two can
 //! be compared; it is also the benchmark's baseline. Every part uses only this folder (`super::`),
-//! so that the test of mutants can compile broken copies of it.
+//! so that the test of mutants can compile broken copies of it; the public parts are those that a
+//! broken copy of the quotes' part uses as they are.
 
 mod act;
 mod answer;
 mod bands;
-mod case;
+pub mod case;
+mod filling;
 mod printer;
-mod reading;
-mod refusal;
+mod quotes;
+pub mod reading;
+pub mod refusal;
 mod ruling;
-mod units;
+pub mod units;
 mod way;
 
 pub use answer::{rule_case, rule_sheet, Counts};
 pub use bands::{band, Band};
 pub use case::{Agreement, Case, Day, Kind, Party, Quote, Side, Terms};
+pub use filling::fill_case;
 pub use printer::print_sheet;
+pub use quotes::{best_quotes, Best};
 pub use reading::{read_case, CASE_BYTES};
 pub use refusal::Refusal;
 pub use ruling::{rule, theoretical_price, Outcome, Reason, Ruling, TheoreticalPrice};

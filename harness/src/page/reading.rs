@@ -10,10 +10,10 @@ pub const CASE_BYTES: usize = 88;
 pub type Record = [u8; CASE_BYTES];
 
 const KIND: u16 = 1;
-const NONE: u32 = 4_294_967_295;
-const HIGHEST_PRICE: u32 = 9_999_999;
-const MOST_CONTRACTS: u32 = 1_000_000;
-const LAST_SECOND: u32 = 86_399;
+pub const NONE: u32 = 4_294_967_295;
+pub const HIGHEST_PRICE: u32 = 9_999_999;
+pub const MOST_CONTRACTS: u32 = 1_000_000;
+pub const LAST_SECOND: u32 = 86_399;
 const LONGEST_WAIT: u32 = 86_400;
 
 /// "Reading a case tests 1, then 2 to 9."
@@ -310,14 +310,14 @@ fn agreement(
     Ok(Some(Agreement { terms, after }))
 }
 
-fn bytes_at<const N: usize>(record: &Record, at: usize) -> [u8; N] {
+fn bytes_at<const LEN: usize, const N: usize>(record: &[u8; LEN], at: usize) -> [u8; N] {
     *record[at..].first_chunk().expect("a field of the record")
 }
 
-fn u16_at(record: &Record, at: usize) -> u16 {
+pub fn u16_at<const LEN: usize>(record: &[u8; LEN], at: usize) -> u16 {
     u16::from_le_bytes(bytes_at(record, at))
 }
 
-fn u32_at(record: &Record, at: usize) -> u32 {
+pub fn u32_at<const LEN: usize>(record: &[u8; LEN], at: usize) -> u32 {
     u32::from_le_bytes(bytes_at(record, at))
 }

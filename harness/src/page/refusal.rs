@@ -1,4 +1,4 @@
-//! "Numbers given back instead of a ruling."
+//! "Numbers given back instead of a ruling", and those of request L1 for a list of quotes.
 
 #[derive(Clone, Copy, Debug, PartialEq, Eq)]
 pub enum Refusal {
@@ -13,6 +13,10 @@ pub enum Refusal {
     Agreement = 9,
     SheetLength = 10,
     AnswerBuffer = 11,
+    QuotesLength = 20,
+    QuoteField = 21,
+    QuoteOrder = 22,
+    TradeTime = 23,
 }
 
 impl Refusal {
