@@ -1,12 +1,13 @@
--- The ways in which a call ends (RULE R3.0.2 to R3.0.8).
-use Prim.Native.Nat.{ℕ, _*_, _≤_}
+-- The ways in which a call ends (RULE R3.0.2 to R3.0.11).
+use Prim.Native.Nat.{ℕ, _*_, _≤_, _<_}
 use mathlib.Core.Path.{_≡_}
 use mathlib.Core.Logic.{_⊎_}
 use mathlib.Core.List.{List, [], _∷_}
-use lib.ListN.{length}
+use lib.ListN.{length, getD}
 use Rattle.wire.specs.Laid.{laid, row}
 use Rattle.cases.specs.Cases.{readingOf}
 use Rattle.answer.specs.Answer.{answerOf}
+use Rattle.filling.specs.Filling.{fillingOf}
 use Rattle.sheet.specs.declared.SheetAnswer.{SheetAnswer}
 use Rattle.sheet.specs.Sheet.{caseAt, casesIn, refusalBytes, entryOf, refusedWhole, ruledWhole}
 
@@ -27,6 +28,18 @@ caseNumbers = 1 ∷ 11 ∷ 2 ∷ 3 ∷ 4 ∷ 5 ∷ 6 ∷ 7 ∷ 8 ∷ 9 ∷ []
 -- a case of a sheet: 2 to 9
 abbrev pub entryNumbers : List ℕ
 entryNumbers = 2 ∷ 3 ∷ 4 ∷ 5 ∷ 6 ∷ 7 ∷ 8 ∷ 9 ∷ []
+
+-- looking up the best bid and offer: 20 to 23
+abbrev pub quoteNumbers : List ℕ
+quoteNumbers = 20 ∷ 21 ∷ 22 ∷ 23 ∷ []
+
+-- filling a case: 1, then 2 to 9, then 20 to 22 (23 cannot arise: an accepted case's execution time is a time of day)
+abbrev pub fillNumbers : List ℕ
+fillNumbers = 1 ∷ 2 ∷ 3 ∷ 4 ∷ 5 ∷ 6 ∷ 7 ∷ 8 ∷ 9 ∷ 20 ∷ 21 ∷ 22 ∷ []
+
+-- filling a sheet: 10, then 20 to 22
+abbrev pub fillSheetNumbers : List ℕ
+fillSheetNumbers = 10 ∷ 20 ∷ 21 ∷ 22 ∷ []
 
 -- n is one of these numbers
 abbrev pub OneOf : List ℕ → ℕ → Type 0
@@ -49,6 +62,12 @@ abbrev pub Ended : ℕ → List ℕ → ℕ → List ℕ → List ℕ → Type 0
 Ended size numbers n before after =
     ((n ≡ 0) × (size ≤ length before) × ((w : List ℕ) × (length w ≡ size) × (after ≡ laid w before))) ⊎ (OneOf numbers n × (after ≡ before))
 
+-- The number, with the case before and after a filling: 0, and the case has its length and every byte outside 20 to 35; or one of the numbers,
+-- and the case is as it was.
+abbrev pub FillEnded : ℕ → List ℕ → List ℕ → Type 0
+FillEnded n before after =
+    ((n ≡ 0) × (length after ≡ length before) × ((i : ℕ) → (i < 20) ⊎ (36 ≤ i) → getD after i 0 ≡ getD before i 0)) ⊎ (OneOf fillNumbers n × (after ≡ before))
+
 -- ---- a sheet
 
 -- The answer, with the bytes for a buffer of `room` bytes: the row of the cases' entries with their counts, for which there is room; or 10
@@ -62,6 +81,12 @@ abbrev pub SheetEnded : {A : Type 0} → (SheetAnswer → A) → List ℕ → A 
 SheetEnded view s r before after =
     ((r ≡ view (ruledWhole s (casesIn s) .0)) × (casesIn s * 96 ≤ length before) × (after ≡ laid (row (entryOf s) (casesIn s)) before))
     ⊎ (((r ≡ view (refusedWhole 10 .0)) ⊎ (r ≡ view (refusedWhole 11 .0))) × (after ≡ before))
+
+-- The number, with the sheet before and after a filling: 0, and the sheet has its length, and each case of it is what filling makes of that case
+-- by itself; or one of the numbers, and the sheet is as it was.
+abbrev pub SheetFilled : List ℕ → List ℕ → ℕ → List ℕ → Type 0
+SheetFilled q s n after =
+    ((n ≡ 0) × (length after ≡ length s) × ((k : ℕ) → k < casesIn s → caseAt after k ≡ fillingOf q (caseAt s k) .1)) ⊎ (OneOf fillSheetNumbers n × (after ≡ s))
 
 -- Case k of a sheet: accepted, its entry is the 96 bytes of its answer; or refused with one of 2 to 9, its entry is the refusal record of 12
 -- bytes with its index and number.

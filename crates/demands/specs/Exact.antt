@@ -13,6 +13,10 @@ use Rattle.refusals.proofs as refusals
 use Rattle.prices.proofs as prices
 use Rattle.faults.proofs as faults
 use Rattle.cases.proofs as cases
+use Rattle.quotes.proofs as quotes
+use Rattle.halves.proofs as halves
+use Rattle.best.proofs as best
+use Rattle.filling.proofs as filling
 use Rattle.bands.proofs as bands
 use Rattle.parties.proofs as parties
 use Rattle.way.proofs as way
@@ -28,6 +32,12 @@ use Rattle.sheet.proofs as sheet
 use Rattle.text.proofs as text
 use Rattle.lines.proofs as lines
 use Rattle.report.proofs as report
+use Rattle.spelling.proofs as spelling
+use Rattle.phrases.proofs as phrases
+use Rattle.best_lines.proofs as best-lines
+use Rattle.standing.proofs as standing
+use Rattle.fillings.proofs as fillings
+use Rattle.fill_report.proofs as fill-report
 use Rattle.desk.proofs as desk
 use Rattle.specimen.proofs as specimen
 
@@ -129,6 +139,40 @@ read-case-exact = cases.Exact.read-case-exact
 
 pub write-case-exact : (κs : Lfts 1) → ExactIn (λ a. a .1 .0) (cases.write_case.Reads.Post κs)
 write-case-exact = cases.Exact.write-case-exact
+
+-- ---- quotes
+pub posted-at-exact : (κs : Lfts 1) → Exact (quotes.posted_at.Reads.Post κs)
+posted-at-exact = quotes.Exact.posted-at-exact
+
+pub check-quotes-exact : (κs : Lfts 1) → Exact (quotes.check_quotes.Reads.Post κs)
+check-quotes-exact = quotes.Exact.check-quotes-exact
+
+-- ---- halves
+pub half-of-exact : Exact (halves.half_of.Reads.Post tt)
+half-of-exact = halves.Exact.half-of-exact
+
+pub better-exact : Exact (halves.better.Reads.Post tt)
+better-exact = halves.Exact.better-exact
+
+pub size-if-exact : Exact (halves.size_if.Reads.Post tt)
+size-if-exact = halves.Exact.size-if-exact
+
+pub capped-exact : Exact (halves.capped.Reads.Post tt)
+capped-exact = halves.Exact.capped-exact
+
+-- ---- best
+pub last-before-exact : (κs : Lfts 1) → Exact (best.last_before.Reads.Post κs)
+last-before-exact = best.Exact.last-before-exact
+
+pub find-best-exact : (κs : Lfts 1) → Exact (best.find_best.Reads.Post κs)
+find-best-exact = best.Exact.find-best-exact
+
+-- ---- filling
+pub check-fill-exact : (κs : Lfts 2) → Exact (filling.check_fill.Reads.Post κs)
+check-fill-exact = filling.Exact.check-fill-exact
+
+pub fill-case-exact : (κs : Lfts 2) → ExactIn (λ a. a .1 .0) (filling.fill_case.Reads.Post κs)
+fill-case-exact = filling.Exact.fill-case-exact
 
 -- ---- bands
 pub band-of-exact : Exact (bands.band_of.Reads.Post tt)
@@ -239,6 +283,42 @@ put-sheet-exact = lines.Exact.put-sheet-exact
 pub print-sheet-exact : (κs : Lfts 2) → ExactIn (λ a. a .1 .0) (report.print_sheet.Reads.Post κs)
 print-sheet-exact = report.Exact.print-sheet-exact
 
+-- ---- spelling
+pub read-time-exact : (κs : Lfts 1) → Exact (spelling.read_time.Reads.Post κs)
+read-time-exact = spelling.Exact.read-time-exact
+
+pub add-time-exact : (κs : Lfts 1) → ExactIn (λ a. a .0) (spelling.add_time.Reads.Post κs)
+add-time-exact = spelling.Exact.add-time-exact
+
+pub add-dollars-exact : (κs : Lfts 1) → ExactIn (λ a. a .0) (spelling.add_dollars.Reads.Post κs)
+add-dollars-exact = spelling.Exact.add-dollars-exact
+
+-- ---- phrases
+pub add-refusal-exact : (κs : Lfts 1) → ExactIn (λ a. a .0) (phrases.add_refusal.Reads.Post κs)
+add-refusal-exact = phrases.Exact.add-refusal-exact
+
+-- ---- best_lines
+pub add-head-exact : (κs : Lfts 1) → ExactIn (λ a. a .0) (best-lines.add_head.Reads.Post κs)
+add-head-exact = best-lines.Exact.add-head-exact
+
+pub add-sayer-exact : (κs : Lfts 1) → ExactIn (λ a. a .0) (best-lines.add_sayer.Reads.Post κs)
+add-sayer-exact = best-lines.Exact.add-sayer-exact
+
+-- ---- standing
+pub print-best-exact : (κs : Lfts 3) → ExactIn (λ a. a .1 .1 .0) (standing.print_best.Reads.Post κs)
+print-best-exact = standing.Exact.print-best-exact
+
+-- ---- fillings
+pub check-filling-exact : (κs : Lfts 2) → Exact (fillings.check_filling.Reads.Post κs)
+check-filling-exact = fillings.Exact.check-filling-exact
+
+pub fill-sheet-exact : (κs : Lfts 2) → ExactIn (λ a. a .1 .0) (fillings.fill_sheet.Reads.Post κs)
+fill-sheet-exact = fillings.Exact.fill-sheet-exact
+
+-- ---- fill_report
+pub print-filling-exact : (κs : Lfts 3) → ExactIn (λ a. a .1 .1 .0) (fill-report.print_filling.Reads.Post κs)
+print-filling-exact = fill-report.Exact.print-filling-exact
+
 -- ---- desk
 pub desk-check-case-exact : (κs : Lfts 1) → Exact (desk.desk_check_case.Reads.Post κs)
 desk-check-case-exact = desk.Exact.desk-check-case-exact
@@ -251,6 +331,12 @@ desk-rule-sheet-exact = desk.Exact.desk-rule-sheet-exact
 
 pub desk-print-sheet-exact : (κs : Lfts 2) → ExactIn (λ a. a .1 .0) (desk.desk_print_sheet.Reads.Post κs)
 desk-print-sheet-exact = desk.Exact.desk-print-sheet-exact
+
+pub desk-best-quotes-exact : (κs : Lfts 1) → Exact (desk.desk_best_quotes.Reads.Post κs)
+desk-best-quotes-exact = desk.Exact.desk-best-quotes-exact
+
+pub desk-fill-case-exact : (κs : Lfts 2) → ExactIn (λ a. a .1 .0) (desk.desk_fill_case.Reads.Post κs)
+desk-fill-case-exact = desk.Exact.desk-fill-case-exact
 
 -- ---- specimen
 pub good-exact : Exact (specimen.good.Reads.Post tt)

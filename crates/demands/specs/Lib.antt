@@ -6,6 +6,9 @@ pub mod RoundTrips
 pub mod Demand3
 pub mod Laws
 pub mod Sheets
+pub mod Quotes
+pub mod Filled
+pub mod QuoteEdges
 pub mod Edges
 pub mod NotEmpty
 pub mod Exact

@@ -2,7 +2,7 @@
 -- over the promises as Rattle reads them from the contracts, of every two calls. What the types give, bytes below 256 and codes of four
 -- bytes, the definitions ask for (`AreBytes`, `Held`); the calls need not, since the promises hand it on.
 use Prim.Native.Nat.{ℕ, _≤_}
-use mathlib.Core.Path.{_≡_, sym, ap, subst, _∙_}
+use mathlib.Core.Path.{_≡_, sym, ap, _∙_}
 use mathlib.Core.List.{List}
 use lib.ListN.{length, take}
 use contract.Lifetimes.{Lfts}

@@ -12,16 +12,17 @@ use borrow.Author.Tests.{leb-true, le-leb, eq-eqb, eqb-true, eqb-false}
 use Rattle.wire.specs.Laid.{laid, row}
 use Rattle.wire.specs.Tests.{pick, firstFailed}
 use Rattle.wire.proofs.Tests.{either, none-fails}
-use Rattle.wire.proofs.Rows.{row-most}
+use Rattle.wire.proofs.Rows.{row-most, row-same}
 use Rattle.record.specs.Record.{factsOf, recordBytes}
-use Rattle.refusals.specs.Tests.{lengthOk, byteTests, factTests}
+use Rattle.refusals.specs.Tests.{lengthOk, formTests, byteTests, factTests}
 use Rattle.cases.specs.Words.{Facts}
-use Rattle.cases.specs.Cases.{refusalOf, readingOf, writeRefusalOf}
-use Rattle.cases.proofs.Laws.{read-number}
+use Rattle.cases.specs.declared.Reading.{Reading}
+use Rattle.cases.specs.Cases.{refusalOf, accepted, readingOf, writeRefusalOf}
+use Rattle.cases.proofs.Laws.{read-number, accepted-at, passed-facts}
 use Rattle.answer.specs.Answer.{caseRefusalOf, answerOf, caseOf}
 use Rattle.answer.proofs.Cases.{answer-length}
 use Rattle.sheet.specs.declared.SheetAnswer.{SheetAnswer}
-use Rattle.sheet.specs.Sheet.{caseAt, casesIn, refusalBytes, entryBytes, entryOf, ruledIn, wholeCases, sheetRefusalOf, refusedWhole, ruledWhole, sheetOf}
+use Rattle.sheet.specs.Sheet.{caseAt, casesIn, refusalBytes, entryBytes, ruledIn, wholeCases, sheetRefusalOf, refusedWhole, ruledWhole, sheetOf}
 use Rattle.sheet.proofs.Turns.{whole-length}
 use Rattle.sheet.proofs.Whole.{case-whole}
 use Rattle.text.specs.Text.{letters, spelt, decimalOf}
@@ -29,7 +30,24 @@ use Rattle.lines.specs.Lines.{header, endLine, sheetLine}
 use Rattle.lines.proofs.Lengths.{header-most, end-most, sheet-most}
 use Rattle.report.specs.Report.{lineOf, ruledText, textOf}
 use Rattle.report.proofs.Lines.{line-most}
-use Rattle.demands.specs.Ends.{entryNumbers, OneOf, Told, Answered, Ended, SheetAnswered, SheetEnded, Entered}
+use Rattle.round_trips.proofs.Again.{sound}
+use Rattle.facts.specs.declared.Mills.{Mills}
+use Rattle.facts.specs.declared.Price.the-variants.{At}
+use Rattle.halves.specs.declared.Half.{Half}
+use Rattle.quotes.specs.declared.Posted.{Posted}
+use Rattle.best.specs.Lasts.{lastOf}
+use Rattle.best.specs.Best.{saidBy, bestOf}
+use Rattle.best.specs.Found.{bestIn}
+use Rattle.quotes.specs.Quotes.{postedIn, wholeQuotes, recordsOk, quotesIn, rising, quotesRefusalOf}
+use Rattle.filling.specs.Filling.{quoted, foundFor, fillRefusalOf, fillingOf}
+use Rattle.lookups.proofs.Looked.{found-number}
+use Rattle.lookups.specs.Lookups.{NoBetter}
+use Rattle.lookups.proofs.Better.{no-better-said, is-one}
+use Rattle.lookups.proofs.Again.{filled-twice, fill-number, refused-kept, case-good, fill-bytes, fill-facts}
+use Rattle.lookups.proofs.Filled.{filled-length, filled-outside}
+use Rattle.fillings.specs.Fillings.{fillSheetRefusalOf, filledCase, fillSheetOf}
+use Rattle.fillings.proofs.Laws.{refuses, filled-whole, sheet-as-long, case-filled}
+use Rattle.demands.specs.Ends.{fillSheetNumbers, SheetFilled, readNumbers, entryNumbers, fillNumbers, OneOf, Told, Answered, Ended, FillEnded, SheetAnswered, SheetEnded, Entered}
 
 -- ---- a row of tests gives 0 or one of its numbers
 abbrev numbersOf : List (ℕ × Bool) → List ℕ
@@ -175,3 +193,112 @@ module _ (s : List ℕ) where
 pub empty-report : textOf [] ≡ letters "TRADE OUTCOME REASON TP NEW ADJ NUL OLD" ++ (10 ∷ []) ++ letters "END 0 0" ++ (10 ∷ [])
 unfolding textOf wholeCases header endLine row ruledIn decimalOf spelt
 empty-report = refl
+
+-- ---- a case filled
+told-more : (ms ns : List ℕ) (n : ℕ) → Told ms n → Told (ms ++ ns) n
+told-more ms ns n (inl e) = inl e
+told-more [] ns n (inr o) = absurd o
+told-more (m ∷ ms) ns n (inr (inl e)) = inr (inl e)
+told-more (m ∷ ms) ns n (inr (inr o)) = after (told-more ms ns n (inr o)) where
+  after : Told (ms ++ ns) n → Told (m ∷ (ms ++ ns)) n
+  after (inl e) = inl e
+  after (inr o) = inr (inr o)
+
+told-after : (ms ns : List ℕ) (n : ℕ) → Told ns n → Told (ms ++ ns) n
+told-after [] ns n t = t
+told-after (m ∷ ms) ns n t = after (told-after ms ns n t) where
+  after : Told (ms ++ ns) n → Told (m ∷ (ms ++ ns)) n
+  after (inl e) = inl e
+  after (inr o) = inr (inr o)
+
+-- the quotes' number at a time of day
+list-told : (q : List ℕ) (t : ℕ) → leb t 86399 ≡ true → Told (20 ∷ 21 ∷ 22 ∷ []) (quotesRefusalOf q t)
+unfolding quotesRefusalOf
+list-told q t h = simp h (told ((20, wholeQuotes q) ∷ (21, recordsOk q 0 (quotesIn q)) ∷ (22, rising (postedIn q)) ∷ []))
+
+module _ (q s : List ℕ) where
+  fill-told : Told fillNumbers (fillRefusalOf q s)
+  unfolding fillRefusalOf refusalOf
+  fill-told =
+      either (Told fillNumbers) (eqb (refusalOf s) 0) (foundFor q s .refusal) (refusalOf s)
+      (λ e. rw (found-number q (factsOf s .trade .executed .0))
+      (told-after readNumbers (20 ∷ 21 ∷ 22 ∷ []) _ (list-told q (factsOf s .trade .executed .0) (sound (factsOf s) (passed-facts s (eqb-true (refusalOf s) 0 e)) .executed))))
+      (λ e. told-more readNumbers (20 ∷ 21 ∷ 22 ∷ []) (refusalOf s) (told (formTests s ++ factTests (factsOf s))))
+
+  pub fill-ended : FillEnded (fillingOf q s .0) s (fillingOf q s .1)
+  fill-ended = by-test (eqb (fillingOf q s .0) 0) refl where
+    by-test : (b : Bool) → eqb (fillingOf q s .0) 0 ≡ b → FillEnded (fillingOf q s .0) s (fillingOf q s .1)
+    by-test true h =
+        let done = eqb-true (fillingOf q s .0) 0 h in
+        inl (
+          done,
+          rw (fill-bytes q s done) (filled-length s (foundFor q s .bid) (foundFor q s .offer)),
+          rw (fill-bytes q s done) (filled-outside s (foundFor q s .bid) (foundFor q s .offer)),
+        )
+    by-test false h =
+        inr
+        (other fillNumbers (fillingOf q s .0) (rw (fill-number q s) fill-told) h, refused-kept q s (eqb-false (fillingOf q s .0) 0 h))
+
+  pub filled-accepted : fillingOf q s .0 ≡ 0
+      → (readingOf s .refusal ≡ 0) × (readingOf (fillingOf q s .1) ≡ accepted (quoted (readingOf s .facts) (foundFor q s .bid) (foundFor q s .offer)))
+  filled-accepted done =
+      let good = case-good q s done in
+      let facts = fill-facts q s done in (
+        read-number s ∙ good,
+        accepted-at (fillingOf q s .1) (facts .0)
+            ∙ ap accepted (facts .1 ∙ ap (λ (r : Reading). quoted (r .facts) (foundFor q s .bid) (foundFor q s .offer)) (sym (accepted-at s good))),
+      )
+
+-- ---- a sheet filled
+module _ (q s : List ℕ) where
+  sheet-refusal-told : Told fillSheetNumbers (fillSheetRefusalOf q s)
+  unfolding fillSheetRefusalOf
+  sheet-refusal-told =
+      either (Told fillSheetNumbers) (wholeCases s) (quotesRefusalOf q 0) 10 (λ e. told-after (10 ∷ []) (20 ∷ 21 ∷ 22 ∷ []) _ (list-told q 0 refl)) (λ e. inr (inl refl))
+
+  pub sheet-number : fillSheetOf q s .0 ≡ fillSheetRefusalOf q s
+  unfolding fillSheetOf
+  sheet-number =
+      either (λ (p : ℕ × List ℕ). p .0 ≡ fillSheetRefusalOf q s) (eqb (fillSheetRefusalOf q s) 0) (0, row (filledCase q s) (casesIn s)) (fillSheetRefusalOf q s, s)
+      (λ e. sym (eqb-true (fillSheetRefusalOf q s) 0 e)) (λ e. refl)
+
+  pub sheet-filled : SheetFilled q s (fillSheetOf q s .0) (fillSheetOf q s .1)
+  sheet-filled = by-test (eqb (fillSheetRefusalOf q s) 0) refl where
+    by-test : (b : Bool) → eqb (fillSheetRefusalOf q s) 0 ≡ b → SheetFilled q s (fillSheetOf q s .0) (fillSheetOf q s .1)
+    by-test true h =
+        let none = eqb-true (fillSheetRefusalOf q s) 0 h in
+        inl (sheet-number ∙ none, sheet-as-long q s, λ k within. case-filled q s k none within)
+    by-test false h =
+        let some = eqb-false (fillSheetRefusalOf q s) 0 h in
+        inr (rw sheet-number (other fillSheetNumbers (fillSheetRefusalOf q s) sheet-refusal-told h), sym (refuses q s (fillSheetRefusalOf q s) refl some .1))
+
+-- ---- filled twice, a sheet too
+whole-twice : (q s : List ℕ) → fillSheetRefusalOf q s ≡ 0 → fillSheetOf q (fillSheetOf q s .1) ≡ fillSheetOf q s
+unfolding fillSheetRefusalOf wholeCases
+whole-twice q s good =
+    let t = fillSheetOf q s .1 in
+    let long : length t ≡ length s = sheet-as-long q s in
+    let number : fillSheetRefusalOf q t ≡ 0 = rw long good in
+    let count : casesIn t ≡ casesIn s = rw long in
+    let each : (k : ℕ) → k < casesIn s → filledCase q t k ≡ filledCase q s k
+    = λ k within. ap (λ (c : List ℕ). fillingOf q c .1) (case-filled q s k good within) ∙ ap (λ (p : ℕ × List ℕ). p .1) (filled-twice q (caseAt s k)) in
+    filled-whole q t number ∙ ap (λ (w : List ℕ). (0, w)) (ap (row (filledCase q t)) count ∙ row-same (filledCase q t) (filledCase q s) (casesIn s) each) ∙ sym (filled-whole q s good)
+
+module _ (q s : List ℕ) where
+  pub sheet-twice : fillSheetOf q (fillSheetOf q s .1) ≡ fillSheetOf q s
+  sheet-twice = by-test (eqb (fillSheetRefusalOf q s) 0) refl where
+    by-test : (b : Bool) → eqb (fillSheetRefusalOf q s) 0 ≡ b → fillSheetOf q (fillSheetOf q s .1) ≡ fillSheetOf q s
+    by-test true h = whole-twice q s (eqb-true (fillSheetRefusalOf q s) 0 h)
+    by-test false h = ap (fillSheetOf q) (sym (refuses q s (fillSheetRefusalOf q s) refl (eqb-false (fillSheetRefusalOf q s) 0 h) .1))
+
+-- ---- the best of the sixteen, either half
+pub best-of-sixteen : (h : Half) (qs : List Posted)
+    → ((e : ℕ) → 1 ≤ e → e ≤ 16 → NoBetter h (saidBy h (lastOf e qs) .price) (bestIn h qs .price))
+    × ((m : Mills) → bestIn h qs .price ≡ At m → (e : ℕ) × (1 ≤ e) × (e ≤ 16) × (saidBy h (lastOf e qs) .price ≡ At m))
+unfolding bestOf
+best-of-sixteen h qs = (no-better-said h qs, is-one h qs)
+
+-- ---- quotes that change nothing fill nothing else
+pub same-filling : (q p s : List ℕ) → foundFor q s ≡ foundFor p s → fillingOf q s ≡ fillingOf p s
+unfolding fillingOf fillRefusalOf
+same-filling q p s h = rw h

@@ -1,0 +1,9 @@
+pub mod Looked
+pub mod Fit
+pub mod Joined
+pub mod Fewer
+pub mod Nothing
+pub mod Better
+pub mod Stretches
+pub mod Filled
+pub mod Again
