@@ -73,6 +73,15 @@ module _ (κs : Lfts 2) (q q' s s' : RefT (List ℕ)) (n : ℕ) where
   pub check-filling-says : fillings.check_filling.Reads.Post κs (q, (s, tt)) n (q', (s', tt)) → n ≡ fillSheetOf (now q) (now s) .0
   check-filling-says p = p ∙ sym (why.sheet-number (now q) (now s))
 
+-- Two calls of `fill_sheet`, the second on the sheet that the first left, with the same quotes: the same number, and the same sheet.
+pub fill-sheet-twice : (κs κs' : Lfts 2) (q q' p p' s s' u u' : RefT (List ℕ)) (n m : ℕ) → now p ≡ now q → now u ≡ now s'
+    → fillings.fill_sheet.Reads.Post κs (q, (s, tt)) n (q', (s', tt)) → fillings.fill_sheet.Reads.Post κs' (p, (u, tt)) m (p', (u', tt))
+    → (m ≡ n) × (now u' ≡ now s')
+fill-sheet-twice κs κs' q q' p p' s s' u u' n m quotes left a b =
+    let again : fillSheetOf (now p) (now u) ≡ fillSheetOf (now q) (now s) =
+    ap (λ (l : List ℕ). fillSheetOf l (now u)) quotes ∙ ap (fillSheetOf (now q)) (left ∙ a .1) ∙ sheet-filled-twice (now q) (now s) in
+    (b .0 ∙ ap (λ (x : ℕ × List ℕ). x .0) again ∙ sym (a .0), b .1 ∙ ap (λ (x : ℕ × List ℕ). x .1) again ∙ sym (a .1))
+
 -- ---- what is said of it: no text is longer than the buffer of 131,072 bytes
 pub text-fits : (q s : List ℕ) → length (fillText q s) ≤ 131072
 text-fits = fill-report.Lengths.text-most
