@@ -21,7 +21,7 @@ unfoldable pub allKnown : List Last → Bool
 allKnown [] = true
 allKnown (l ∷ ls) = known l && allKnown ls
 
-or-nothing : (l : Last) → orElse l Silent ≡ l
+pub or-nothing : (l : Last) → orElse l Silent ≡ l
 or-nothing Silent = refl
 or-nothing (Sent q) = refl
 

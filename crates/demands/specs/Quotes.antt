@@ -24,7 +24,9 @@ use Rattle.best.specs.Lasts.{earlier, lastOf, lasts}
 use Rattle.best.specs.Best.{saidBy, bestOf}
 use Rattle.best.specs.Found.{bestIn, foundIn, refused, foundOf}
 use Rattle.best.proofs as best
-use Rattle.spelling.specs.Times.{timeIn}
+use Rattle.spelling.specs.declared.Typed.the-variants.{Seconds}
+use Rattle.spelling.specs.Times.{timeIn, timeText}
+use Rattle.spelling.proofs as spelling
 use Rattle.standing.specs.Standing.{sayerOf, sizesShown, bestText}
 use Rattle.standing.proofs as standing
 use Rattle.desk.specs.declared.DeskBest.{DeskBest}
@@ -172,6 +174,10 @@ size-shown = standing.Sums.size-shown
 -- The quote that is shown for an exchange is that exchange's.
 pub own-quote : (e : ℕ) (qs : List Posted) (q : Posted) → lastOf e qs ≡ Sent q → q .exchange ≡ e
 own-quote = standing.Lasting.own-quote
+
+-- A time of day, spelt as it is shown and typed again, is the same second.
+pub time-back : (n : ℕ) → n ≤ 86399 → timeIn (timeText n) ≡ Seconds n
+time-back = spelling.Times.time-back
 
 -- No text is longer than the buffer of 4,096 bytes.
 pub text-fits : (s w : List ℕ) → length (bestText s (timeIn w)) ≤ 4096

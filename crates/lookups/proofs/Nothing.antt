@@ -9,11 +9,11 @@ use Rattle.wire.specs.Tests.{pick}
 use Rattle.wire.proofs.Tests.{either}
 use Rattle.quotes.specs.Quotes.{postedIn}
 use Rattle.lookups.proofs.Joined.{joined-posted}
-use Rattle.best.specs.declared.Last.{Last}
 use Rattle.best.specs.declared.Last.the-variants.{Silent, Sent}
 use Rattle.best.specs.Words.{Posted}
 use Rattle.best.specs.Lasts.{earlier, orElse, lastOf, lastsFrom, lasts}
 use Rattle.best.specs.Found.{foundIn, foundOf}
+use Rattle.best.proofs.Known.{or-nothing}
 use Rattle.lookups.proofs.Looked.{found-number, good-found}
 use Rattle.lookups.proofs.Fewer.{still-good}
 use Rattle.lookups.specs.Lookups.{AllLate, AllOvertaken, Whole}
@@ -46,9 +46,6 @@ late-nothing t ps qs rs h =
     earlier-append t ps (qs ++ rs) ∙ ap (λ (l : List Posted). earlier t ps ++ l) (earlier-append t qs rs ∙ rw (late-none t qs h)) ∙ sym (earlier-append t ps rs)
 
 -- ---- those that are overtaken
-known-first : (e : ℕ) (p : Posted) (qs : List Posted) (l : Last) → lastOf e qs ≡ Sent p → orElse (lastOf e qs) l ≡ lastOf e qs
-known-first e p qs l h = rw h
-
 -- whatever stands before: the last quotes of a list with the same last quotes behind it
 behind : (e : ℕ) (ps qs rs : List Posted) → lastOf e qs ≡ lastOf e rs → lastOf e (ps ++ qs) ≡ lastOf e (ps ++ rs)
 unfolding lastOf
@@ -59,13 +56,9 @@ behind e (p ∷ ps) qs rs h = rw (behind e ps qs rs h)
 passed : (e : ℕ) (q p : Posted) (qs : List Posted) → lastOf (q .exchange) qs ≡ Sent p → lastOf e (q ∷ qs) ≡ lastOf e qs
 unfolding lastOf
 passed e q p qs h = by-test (eqb (q .exchange) e) refl where
-  or-silent : (l : Last) → orElse l Silent ≡ l
-  or-silent Silent = refl
-  or-silent (Sent x) = refl
-
   by-test : (b : Bool) → eqb (q .exchange) e ≡ b → orElse (lastOf e qs) (pick b (Sent q) Silent) ≡ lastOf e qs
-  by-test true z = known-first e p qs (Sent q) (rw (eqb-true (q .exchange) e z) at h)
-  by-test false z = or-silent (lastOf e qs)
+  by-test true z = let is : lastOf e qs ≡ Sent p = rw (eqb-true (q .exchange) e z) at h in rw is
+  by-test false z = or-nothing (lastOf e qs)
 
 -- known behind, known with more in front
 known-behind : (e : ℕ) (p : Posted) (ps qs : List Posted) → lastOf e qs ≡ Sent p → lastOf e (ps ++ qs) ≡ Sent p

@@ -22,9 +22,6 @@ module _ (s : List ℕ) (t : ℕ) (h : quotesRefusalOf s t ≡ 0) where
       let d = none-fails (leb t 86399) 23 _ tt (c .1) in
       (a .0, (b .0, (c .0, d .0)))
 
-  pub length-is-ok : wholeQuotes s ≡ true
-  length-is-ok = parts .0
-
   pub all-ok : recordsOk s 0 (quotesIn s) ≡ true
   all-ok = parts .1 .0
 
