@@ -38,7 +38,7 @@ use Rattle.quotes.specs.declared.Posted.{Posted}
 use Rattle.best.specs.Lasts.{lastOf}
 use Rattle.best.specs.Best.{saidBy, bestOf}
 use Rattle.best.specs.Found.{bestIn}
-use Rattle.quotes.specs.Quotes.{postedIn, wholeQuotes, recordsOk, quotesIn, rising, quotesRefusalOf}
+use Rattle.quotes.specs.Quotes.{wholeQuotes, quotesRefusalOf, listTests}
 use Rattle.filling.specs.Filling.{quoted, foundFor, fillRefusalOf, fillingOf}
 use Rattle.lookups.proofs.Looked.{found-number}
 use Rattle.lookups.specs.Lookups.{NoBetter}
@@ -214,7 +214,7 @@ told-after (m ∷ ms) ns n t = after (told-after ms ns n t) where
 -- the quotes' number at a time of day
 list-told : (q : List ℕ) (t : ℕ) → leb t 86399 ≡ true → Told (20 ∷ 21 ∷ 22 ∷ []) (quotesRefusalOf q t)
 unfolding quotesRefusalOf
-list-told q t h = simp h (told ((20, wholeQuotes q) ∷ (21, recordsOk q 0 (quotesIn q)) ∷ (22, rising (postedIn q)) ∷ []))
+list-told q t h = simp h (told ((20, wholeQuotes q) ∷ listTests q))
 
 module _ (q s : List ℕ) where
   fill-told : Told fillNumbers (fillRefusalOf q s)
@@ -253,8 +253,7 @@ module _ (q s : List ℕ) where
 module _ (q s : List ℕ) where
   sheet-refusal-told : Told fillSheetNumbers (fillSheetRefusalOf q s)
   unfolding fillSheetRefusalOf
-  sheet-refusal-told =
-      either (Told fillSheetNumbers) (wholeCases s) (quotesRefusalOf q 0) 10 (λ e. told-after (10 ∷ []) (20 ∷ 21 ∷ 22 ∷ []) _ (list-told q 0 refl)) (λ e. inr (inl refl))
+  sheet-refusal-told = told ((10, wholeCases s) ∷ (20, wholeQuotes q) ∷ listTests q)
 
   pub sheet-number : fillSheetOf q s .0 ≡ fillSheetRefusalOf q s
   unfolding fillSheetOf

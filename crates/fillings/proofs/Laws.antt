@@ -24,13 +24,14 @@ module _ (q s : List ℕ) where
   unfolding fillSheetRefusalOf
   sheet-fails h = simp h
 
+  -- at second 0 the test 23 passes
   pub quotes-decide : (n : ℕ) → wholeCases s ≡ true → n ≡ quotesRefusalOf q 0 → n ≡ fillSheetRefusalOf q s
-  unfolding fillSheetRefusalOf
+  unfolding fillSheetRefusalOf quotesRefusalOf
   quotes-decide n h e = simp h e
 
   pub whole-first : fillSheetRefusalOf q s ≡ 0 → wholeCases s ≡ true
   unfolding fillSheetRefusalOf
-  whole-first e = none-fails (wholeCases s) 10 (quotesRefusalOf q 0) tt e .0
+  whole-first e = none-fails (wholeCases s) 10 _ tt e .0
 
   -- ---- what a call answers, and what it leaves
   abbrev pub Ends : ℕ → List ℕ → Type 0

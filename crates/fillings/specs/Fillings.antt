@@ -1,17 +1,17 @@
 -- A whole sheet filled from the exchanges' quotes: the sheet and the quotes are tested once, then each case is filled as by itself (RULE R16.10 to
 -- R16.12).
 use Prim.Native.Nat.{ℕ, zero, suc, _+_}
-use mathlib.Core.List.{List}
+use mathlib.Core.List.{List, _∷_}
 use lib.Dec.{eqb}
 use Rattle.wire.specs.Laid.{row}
-use Rattle.wire.specs.Tests.{pick}
+use Rattle.wire.specs.Tests.{pick, firstFailed}
 use Rattle.sheet.specs.Sheet.{caseAt, casesIn, wholeCases}
-use Rattle.quotes.specs.Quotes.{quotesRefusalOf}
+use Rattle.quotes.specs.Quotes.{wholeQuotes, listTests}
 use Rattle.filling.specs.Filling.{fillingOf}
 
--- ---- the sheet is tested with 10, then the quotes with 20 to 22; 23, the trade's time, is each case's own, and holds of second 0
+-- ---- the sheet is tested with 10, then the quotes with 20 to 22 (RULE R3.0.11); 23 is for a trade's time, and each case has its own
 unfoldable pub fillSheetRefusalOf : List ℕ → List ℕ → ℕ
-fillSheetRefusalOf quotes s = pick (wholeCases s) (quotesRefusalOf quotes 0) 10
+fillSheetRefusalOf quotes s = firstFailed ((10, wholeCases s) ∷ (20, wholeQuotes quotes) ∷ listTests quotes)
 
 -- ---- a case by itself
 
