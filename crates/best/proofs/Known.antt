@@ -1,7 +1,7 @@
 -- The last quotes of the sixteen, where one more quote comes in front; and how many of them are known.
 use Prim.Native.Nat.{ℕ, zero, suc, _+_, _≤_, _<_}
 use mathlib.Core.Path.{_≡_, refl, ap}
-use mathlib.Core.Bool.{Bool, true, false, _&&_, false≢true, true≢false}
+use mathlib.Core.Bool.{Bool, true, false, false≢true, true≢false}
 use mathlib.Core.List.{List, [], _∷_}
 use native.Mathlib.Omega.{arith}
 use lib.Dec.{eqb}
@@ -11,15 +11,7 @@ use Rattle.wire.specs.Tests.{pick}
 use Rattle.wire.proofs.Tests.{both-true}
 use Rattle.best.specs.Words.{Posted, Last, Silent, Sent}
 use Rattle.best.specs.Lasts.{orElse, lastOf, lastsFrom, lasts}
-
--- an exchange is known by any quote of it, none or not
-abbrev pub known : Last → Bool
-known Silent = false
-known (Sent q) = true
-
-unfoldable pub allKnown : List Last → Bool
-allKnown [] = true
-allKnown (l ∷ ls) = known l && allKnown ls
+use Rattle.best.specs.Examined.{known, allKnown}
 
 pub or-nothing : (l : Last) → orElse l Silent ≡ l
 or-nothing Silent = refl
@@ -96,6 +88,12 @@ unfolding counted allKnown
 all-counted [] h = refl
 all-counted (Silent ∷ ls) h = let z : ⊥ = omega (arith, counted-most ls) in absurd z
 all-counted (Sent q ∷ ls) h = all-counted ls (omega arith)
+
+pub not-all-counted : (ls : List Last) → counted ls < length ls → allKnown ls ≡ false
+unfolding counted allKnown
+not-all-counted [] h = let z : ⊥ = omega arith in absurd z
+not-all-counted (Silent ∷ ls) h = refl
+not-all-counted (Sent q ∷ ls) h = not-all-counted ls (omega arith)
 
 pub counted-more : (ls : List Last) (i : ℕ) (q : Posted) → known (getD ls i Silent) ≡ false → i < length ls → counted (set ls i (Sent q)) ≡ counted ls + 1
 unfolding counted

@@ -9,7 +9,8 @@ use lib.Dec.{ltb, eqb}
 use Rattle.wire.specs.Tests.{pick}
 use Rattle.quotes.specs.Quotes.{postedAt, postedFrom}
 use Rattle.best.specs.Words.{Posted, Silent, Sent}
-use Rattle.best.specs.Lasts.{earlier, lastOf}
+use Rattle.earlier.specs.Earlier.{earlier}
+use Rattle.best.specs.Lasts.{lastOf}
 
 -- whether a quote is the exchange's, and strictly before the trade
 abbrev Ours : ℕ → ℕ → Posted → Bool

@@ -4,8 +4,9 @@ use mathlib.Core.List.{List, map}
 use lib.Dec.{eqb}
 use Rattle.wire.specs.Tests.{pick}
 use Rattle.quotes.specs.Quotes.{postedIn, quotesRefusalOf}
+use Rattle.earlier.specs.Earlier.{earlier}
 use Rattle.best.specs.Words.{Quote, Posted, Half, Bid, Offer, Found}
-use Rattle.best.specs.Lasts.{earlier, lasts}
+use Rattle.best.specs.Lasts.{lasts}
 use Rattle.best.specs.Best.{saidBy, nobody, bestOf}
 
 -- the best bid, or offer, of each exchange's last quote among these

@@ -1,15 +1,9 @@
--- Each exchange's last quote strictly before the trade (RULE R16.3, R16.4). A list of quotes is in the order in which they came: the last of them
--- stands last.
+-- Each exchange's last quote among these (RULE R16.3, R16.4). A list of quotes is in the order in which they came: the last of them stands last.
 use Prim.Native.Nat.{ℕ, zero, suc}
 use mathlib.Core.List.{List, [], _∷_}
-use lib.Dec.{ltb, eqb}
+use lib.Dec.{eqb}
 use Rattle.wire.specs.Tests.{pick}
 use Rattle.best.specs.Words.{Posted, Last, Silent, Sent}
-
--- the quotes strictly before the trade
-unfoldable pub earlier : ℕ → List Posted → List Posted
-earlier t [] = []
-earlier t (q ∷ qs) = pick (ltb (q .time .0) t) (q ∷ earlier t qs) (earlier t qs)
 
 -- the first, unless that is nothing
 abbrev pub orElse : Last → Last → Last

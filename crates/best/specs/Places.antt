@@ -8,6 +8,7 @@ use Rattle.wire.specs.Tests.{pick}
 use Rattle.quotes.specs.Quotes.{postedAt, postedFrom}
 use Rattle.best.specs.Words.{Quote, Half, Last, Silent, Sent, Walk}
 use Rattle.best.specs.Lasts.{lasts}
+use Rattle.best.specs.Examined.{examinedIn}
 use Rattle.best.specs.Best.{saidBy}
 
 abbrev pub placedAt : List ℕ → ℕ → Last
@@ -30,6 +31,7 @@ unfoldable pub met : Walk → ℕ → ℕ → Walk
 met w i place = pick (eqb (getD (w .last) i 0) 0) (record { last = set (w .last) i place; known = w .known + 1 }) w
 
 -- what the walk over the first n quotes ends with
-pub record Walked (s : List ℕ) (n : ℕ) (places : List ℕ) : Type 0 where
+pub record Walked (s : List ℕ) (n : ℕ) (places : List ℕ) (examined : ℕ) : Type 0 where
   pub last : placed s places ≡ lasts (postedFrom s 0 n)
+  pub read : examined ≡ examinedIn (postedFrom s 0 n)
   pub within : Within s places

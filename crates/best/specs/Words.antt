@@ -10,4 +10,5 @@ pub use Rattle.halves.specs.declared.Half.the-variants.{Bid, Offer}
 pub use Rattle.best.specs.declared.Last.{Last}
 pub use Rattle.best.specs.declared.Last.the-variants.{Silent, Sent}
 pub use Rattle.best.specs.declared.Found.{Found}
+pub use Rattle.best.specs.declared.Looked.{Looked}
 pub use Rattle.best.specs.declared.Walk.{Walk}

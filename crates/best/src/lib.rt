@@ -1,15 +1,17 @@
-// The best bid and offer of the exchanges' quotes at a trade (RULE R16.3 to R16.9): any bytes as quotes and any number as the trade's time give
-// both, or are refused with 20 to 23. Of each exchange its last quote strictly before the trade has a say. They are found by a walk back from the
-// last quote before the trade, which takes the first that it meets of each exchange and stops where all sixteen are known.
+// The best bid and offer of the exchanges' quotes at a trade (RULE R16.3 to R16.9), and how many quotes were read for them (RULE R16.20 to R16.23): any
+// bytes as quotes, any number as the trade's time and any as the number of quotes before it give both, or are refused with 20 to 23 or 28. Of each
+// exchange its last quote strictly before the trade has a say. They are found by a walk back from the last quote before the trade, which takes the
+// first that it meets of each exchange and stops where all sixteen are known.
 ghost use mathlib.Core.Path.{_≡_};
 ghost use mathlib.Core.Bool.{true};
 ghost use Prim.Native.Nat.{_/_, _≤_, _<_};
 ghost use lib.ListN.{length};
-ghost use Rattle.quotes.specs.Quotes.{postedFrom, quotesIn, postedIn, recordsOk, rising};
-ghost use Rattle.best.specs.Lasts.{earlier, lastOf};
+ghost use Rattle.quotes.specs.Quotes.{postedFrom, quotesIn, postedIn, recordsOk};
+ghost use Rattle.earlier.specs.Earlier.{earlier, quotesBeforeOf};
+ghost use Rattle.best.specs.Lasts.{lastOf};
 ghost use Rattle.best.specs.Best.{saidBy, nobody, bestPrice, sizeAt, bestOf};
 ghost use Rattle.best.specs.Places.{placedAt, said, Within, met, Walked};
-ghost use Rattle.best.specs.Found.{foundIn, refused, foundOf};
+ghost use Rattle.best.specs.Looked.{lookedIn, unread, lookedOf};
 use facts::Contracts;
 use facts::Price;
 use facts::Quote;
@@ -29,6 +31,12 @@ pub struct Found {
     pub offer: Quote,
 }
 
+// What a lookup answers: what is found, and how many quotes were read for it; beside a refusal 0.
+pub struct Looked {
+    pub found: Found,
+    pub examined: usize,
+}
+
 // ---- one exchange
 
 // The last quote of one exchange strictly before the trade, for who asks where a price was born. No test is needed: of quotes that are out of
@@ -45,27 +53,6 @@ pub fn last_before(quotes: &[u8], trade_time: u32, exchange: u32) -> Last
         n -= 1;
     }
     Last::Silent
-}
-
-// ---- the quotes strictly before the trade
-
-// How many quotes are strictly before the trade, sought by halves: those below `low` are, and none from `high` on is.
-fn count_before(quotes: &[u8], trade_time: u32) -> usize
-    requires { ⌜ rising (postedIn (now quotes)) ≡ true ⌝ }
-    ensures { λ r. ⌜ (r ≤ length (now (quotes .entry)) / 28) × (postedFrom (now (quotes .entry)) 0 r ≡ earlier «trade_time» (postedIn (now (quotes .entry)))) ⌝ }
-{
-    let mut low: usize = 0;
-    let mut high = quotes.len() / 28;
-    while low < high {
-        let middle = low + (high - low) / 2;
-        let q = quotes::posted_at(quotes, middle);
-        if q.time.0 < trade_time {
-            low = middle + 1;
-        } else {
-            high = middle;
-        }
-    }
-    low
 }
 
 // ---- the walk back
@@ -92,10 +79,16 @@ fn meet(w: Walk, index: usize, place: usize) -> Walk
     }
 }
 
-// The walk over the first n quotes, from the last of them back: the places of the sixteen last quotes.
-fn walk_back(quotes: &[u8], n: usize) -> [usize; 16]
+// Where the walk ends: the places of the sixteen last quotes, and how many quotes were read.
+struct Back {
+    last: [usize; 16],
+    examined: usize,
+}
+
+// The walk over the first n quotes, from the last of them back.
+fn walk_back(quotes: &[u8], n: usize) -> Back
     requires { ⌜ (n ≤ length (now quotes) / 28) × (recordsOk (now quotes) 0 (quotesIn (now quotes)) ≡ true) ⌝ }
-    ensures { λ r. ⌜ Walked (now (quotes .entry)) n r ⌝ }
+    ensures { λ r. ⌜ Walked (now (quotes .entry)) n (r .last) (r .examined) ⌝ }
 {
     let mut w = Walk {
         last: [0usize; 16],
@@ -107,7 +100,11 @@ fn walk_back(quotes: &[u8], n: usize) -> [usize; 16]
         w = meet(w, (q.exchange - 1) as usize, i);
         i -= 1;
     }
-    w.last
+    let last = w.last;
+    Back {
+        last: last,
+        examined: n - i,
+    }
 }
 
 // ---- the best of the sixteen
@@ -178,38 +175,60 @@ fn best_of(quotes: &[u8], last: [usize; 16], half: Half) -> Quote
 
 // ---- the lookup
 
-fn refuse(number: u8) -> Found
-    ensures { λ r. ⌜ r ≡ refused number ⌝ }
+fn refuse(number: u8) -> Looked
+    ensures { λ r. ⌜ r ≡ unread number ⌝ }
 {
-    Found {
-        refusal: number,
-        bid: nobody(),
-        offer: nobody(),
+    Looked {
+        found: Found {
+            refusal: number,
+            bid: nobody(),
+            offer: nobody(),
+        },
+        examined: 0,
     }
 }
 
-// What is found among the first n quotes.
-fn answer(quotes: &[u8], n: usize) -> Found
+// What is found among the first n quotes, and how many of them are read.
+fn answer(quotes: &[u8], n: usize) -> Looked
     requires { ⌜ (n ≤ length (now quotes) / 28) × (recordsOk (now quotes) 0 (quotesIn (now quotes)) ≡ true) ⌝ }
-    ensures { λ r. ⌜ r ≡ foundIn (postedFrom (now (quotes .entry)) 0 n) ⌝ }
+    ensures { λ r. ⌜ r ≡ lookedIn (postedFrom (now (quotes .entry)) 0 n) ⌝ }
 {
-    let last = walk_back(quotes, n);
+    let back = walk_back(quotes, n);
+    let last = back.last;
     let bid = best_of(quotes, last, Half::Bid);
     let offer = best_of(quotes, last, Half::Offer);
-    Found {
-        refusal: 0,
-        bid: bid,
-        offer: offer,
+    Looked {
+        found: Found {
+            refusal: 0,
+            bid: bid,
+            offer: offer,
+        },
+        examined: back.examined,
     }
 }
 
-// The best bid and offer at a trade: tests 20 to 23, then each exchange's last quote strictly before it.
-pub fn find_best(quotes: &[u8], trade_time: u32) -> Found
-    ensures { λ r. ⌜ r ≡ foundOf (now (quotes .entry)) «trade_time» ⌝ }
+// The best bid and offer at a trade, with the number of quotes strictly before it: tests 20 to 23, then 28, then each exchange's last quote among
+// that many.
+pub fn find_best(quotes: &[u8], trade_time: u32, before: usize) -> Looked
+    ensures { λ r. ⌜ r ≡ lookedOf (now (quotes .entry)) «trade_time» before ⌝ }
 {
     let number = quotes::check_quotes(quotes, trade_time);
     if number != 0 {
         return refuse(number);
     }
-    answer(quotes, count_before(quotes, trade_time))
+    if !earlier::number_ok(quotes, trade_time, before) {
+        return refuse(28);
+    }
+    answer(quotes, before)
+}
+
+// The same for who does not have the number: it is found first, and the quotes are tested once.
+pub fn count_and_find(quotes: &[u8], trade_time: u32) -> Looked
+    ensures { λ r. ⌜ r ≡ lookedOf (now (quotes .entry)) «trade_time» (quotesBeforeOf (now (quotes .entry)) «trade_time») ⌝ }
+{
+    let number = quotes::check_quotes(quotes, trade_time);
+    if number != 0 {
+        return refuse(number);
+    }
+    answer(quotes, earlier::count_before(quotes, trade_time))
 }

@@ -1,4 +1,4 @@
-pub mod Parts
+pub mod NoLine
 pub mod Lengths
 pub mod Shown
 pub mod Exact

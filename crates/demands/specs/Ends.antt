@@ -29,11 +29,16 @@ caseNumbers = 1 ∷ 11 ∷ 2 ∷ 3 ∷ 4 ∷ 5 ∷ 6 ∷ 7 ∷ 8 ∷ 9 ∷ []
 abbrev pub entryNumbers : List ℕ
 entryNumbers = 2 ∷ 3 ∷ 4 ∷ 5 ∷ 6 ∷ 7 ∷ 8 ∷ 9 ∷ []
 
--- looking up the best bid and offer: 20 to 23
+-- the quotes and a trade's time: 20 to 23
 abbrev pub quoteNumbers : List ℕ
 quoteNumbers = 20 ∷ 21 ∷ 22 ∷ 23 ∷ []
 
--- filling a case: 1, then 2 to 9, then 20 to 22 (23 cannot arise: an accepted case's execution time is a time of day)
+-- looking up the best bid and offer: these, then 28
+abbrev pub lookNumbers : List ℕ
+lookNumbers = 20 ∷ 21 ∷ 22 ∷ 23 ∷ 28 ∷ []
+
+-- filling a case: 1, then 2 to 9, then 20 to 22 (23 cannot arise: an accepted case's execution time is a time of day; nor can 28: filling finds the
+-- number itself)
 abbrev pub fillNumbers : List ℕ
 fillNumbers = 1 ∷ 2 ∷ 3 ∷ 4 ∷ 5 ∷ 6 ∷ 7 ∷ 8 ∷ 9 ∷ 20 ∷ 21 ∷ 22 ∷ []
 

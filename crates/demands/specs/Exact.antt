@@ -14,6 +14,7 @@ use Rattle.prices.proofs as prices
 use Rattle.faults.proofs as faults
 use Rattle.cases.proofs as cases
 use Rattle.quotes.proofs as quotes
+use Rattle.earlier.proofs as earlier
 use Rattle.halves.proofs as halves
 use Rattle.best.proofs as best
 use Rattle.filling.proofs as filling
@@ -160,12 +161,25 @@ size-if-exact = halves.Exact.size-if-exact
 pub capped-exact : Exact (halves.capped.Reads.Post tt)
 capped-exact = halves.Exact.capped-exact
 
+-- ---- earlier
+pub count-before-exact : (κs : Lfts 1) → Exact (earlier.count_before.Reads.Post κs)
+count-before-exact = earlier.Exact.count-before-exact
+
+pub quotes-before-exact : (κs : Lfts 1) → Exact (earlier.quotes_before.Reads.Post κs)
+quotes-before-exact = earlier.Exact.quotes-before-exact
+
+pub number-ok-exact : (κs : Lfts 1) → Exact (earlier.number_ok.Reads.Post κs)
+number-ok-exact = earlier.Exact.number-ok-exact
+
 -- ---- best
 pub last-before-exact : (κs : Lfts 1) → Exact (best.last_before.Reads.Post κs)
 last-before-exact = best.Exact.last-before-exact
 
 pub find-best-exact : (κs : Lfts 1) → Exact (best.find_best.Reads.Post κs)
 find-best-exact = best.Exact.find-best-exact
+
+pub count-and-find-exact : (κs : Lfts 1) → Exact (best.count_and_find.Reads.Post κs)
+count-and-find-exact = best.Exact.count-and-find-exact
 
 -- ---- filling
 pub check-fill-exact : (κs : Lfts 2) → Exact (filling.check_fill.Reads.Post κs)
@@ -331,6 +345,9 @@ desk-rule-sheet-exact = desk.Exact.desk-rule-sheet-exact
 
 pub desk-print-sheet-exact : (κs : Lfts 2) → ExactIn (λ a. a .1 .0) (desk.desk_print_sheet.Reads.Post κs)
 desk-print-sheet-exact = desk.Exact.desk-print-sheet-exact
+
+pub desk-quotes-before-exact : (κs : Lfts 1) → Exact (desk.desk_quotes_before.Reads.Post κs)
+desk-quotes-before-exact = desk.Exact.desk-quotes-before-exact
 
 pub desk-best-quotes-exact : (κs : Lfts 1) → Exact (desk.desk_best_quotes.Reads.Post κs)
 desk-best-quotes-exact = desk.Exact.desk-best-quotes-exact

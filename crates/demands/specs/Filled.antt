@@ -1,4 +1,4 @@
--- A case filled with the best bid and offer at its own execution time (RULE R16.10 to R16.12, R16.14 to R16.16): demands 1 and 2 of filling, that a filled case is
+-- A case filled with the best bid and offer at its own execution time (RULE R16.10 to R16.16, R16.24): demands 1 and 2 of filling, that a filled case is
 -- accepted with its old facts and those quotes, and that filling twice is filling once. First of the definitions, then, as "so every call", of
 -- what the promises of the functions allow.
 use Prim.Native.Nat.{ℕ, _≤_}
@@ -11,7 +11,11 @@ use Rattle.record.specs.Record.{factsOf}
 use Rattle.cases.specs.declared.Reading.{Reading}
 use Rattle.cases.specs.Cases.{refusalOf, accepted, readingOf}
 use Rattle.cases.proofs as cases
-use Rattle.filling.specs.Filling.{quoted, foundFor, fillingOf}
+use Rattle.quotes.specs.Quotes.{postedIn}
+use Rattle.earlier.specs.Earlier.{earlier}
+use Rattle.best.specs.Examined.{examinedIn}
+use Rattle.filling.specs.declared.Tried.{Tried}
+use Rattle.filling.specs.Filling.{quoted, foundFor, fillingOf, fillReadOf}
 use Rattle.filling.proofs as filling
 use Rattle.fillings.specs.Fillings.{fillSheetOf}
 use Rattle.fillings.proofs as fillings
@@ -43,6 +47,13 @@ pub filled-accepted : (q s : List ℕ) → fillingOf q s .0 ≡ 0
     → (readingOf s .refusal ≡ 0) × (readingOf (fillingOf q s .1) ≡ accepted (quoted (readingOf s .facts) (foundFor q s .bid) (foundFor q s .offer)))
 filled-accepted = why.filled-accepted
 
+-- ---- how many quotes are read for a case (RULE R16.24): those of the lookup at its execution time; for one that is left as it was none
+pub filled-read : (q s : List ℕ) → fillingOf q s .0 ≡ 0 → fillReadOf q s ≡ examinedIn (earlier (factsOf s .trade .executed .0) (postedIn q))
+filled-read = floor.fill-read
+
+pub left-read : (q s : List ℕ) → (fillingOf q s .0 ≡ 0 → ⊥) → fillReadOf q s ≡ 0
+left-read = floor.refused-read
+
 -- ---- filling twice is filling once
 pub filled-twice : (q s : List ℕ) → fillingOf q (fillingOf q s .1) ≡ fillingOf q s
 filled-twice = floor.filled-twice
@@ -59,7 +70,7 @@ nothing-filled a r b s wa wr good nothing = why.same-filling (a ++ (r ++ b)) (a 
 pub sheet-filled : (q s : List ℕ) → SheetFilled q s (fillSheetOf q s .0) (fillSheetOf q s .1)
 sheet-filled = why.sheet-filled
 
--- So every call of `fill_sheet`; and `check_fill` and `check_filling` tell the numbers, and write nothing.
+-- So every call of `fill_sheet`; and `check_fill` and `check_filling` tell the numbers, the first with the quotes read, and write nothing.
 module _ (κs : Lfts 2) (q q' s s' : RefT (List ℕ)) (n : ℕ) where
   pub fill-sheet-says : fillings.fill_sheet.Reads.Post κs (q, (s, tt)) n (q', (s', tt)) → (n ≡ fillSheetOf (now q) (now s) .0) × (now s' ≡ fillSheetOf (now q) (now s) .1)
   fill-sheet-says p = p
@@ -67,8 +78,8 @@ module _ (κs : Lfts 2) (q q' s s' : RefT (List ℕ)) (n : ℕ) where
   pub fill-sheet-ends : fillings.fill_sheet.Reads.Post κs (q, (s, tt)) n (q', (s', tt)) → SheetFilled (now q) (now s) n (now s')
   fill-sheet-ends p = rw (p .0, p .1) (sheet-filled (now q) (now s))
 
-  pub check-fill-says : filling.check_fill.Reads.Post κs (q, (s, tt)) n (q', (s', tt)) → n ≡ fillingOf (now q) (now s) .0
-  check-fill-says p = p
+  pub check-fill-says : (r : Tried) → filling.check_fill.Reads.Post κs (q, (s, tt)) r (q', (s', tt)) → (r .refusal ≡ fillingOf (now q) (now s) .0) × (r .examined ≡ fillReadOf (now q) (now s))
+  check-fill-says r p = (ap (λ (x : Tried). x .refusal) p, ap (λ (x : Tried). x .examined) p)
 
   pub check-filling-says : fillings.check_filling.Reads.Post κs (q, (s, tt)) n (q', (s', tt)) → n ≡ fillSheetOf (now q) (now s) .0
   check-filling-says p = p ∙ sym (why.sheet-number (now q) (now s))

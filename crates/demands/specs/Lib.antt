@@ -7,6 +7,7 @@ pub mod Demand3
 pub mod Laws
 pub mod Sheets
 pub mod Quotes
+pub mod Counted
 pub mod Filled
 pub mod QuoteEdges
 pub mod Edges

@@ -1,5 +1,5 @@
--- The lookup and the filling are not empty (RULE R16.16): worked cases, of which the expected answers were found by hand. Unless said the trade is at
--- second 30. By computation.
+-- The lookup and the filling are not empty (RULE R3.28, R16.16, R16.22): worked cases, of which the expected answers were found by hand. Unless said
+-- the trade is at second 30. By computation.
 use Prim.Native.Nat.{ℕ}
 use mathlib.Core.Path.{_≡_, refl}
 use mathlib.Core.List.{List, [], _∷_, _++_}
@@ -15,9 +15,13 @@ use Rattle.cases.specs.Cases.{refusalOf}
 use Rattle.quotes.specs.Quotes.{postedAt, postedFrom, wholeQuotes, isQuote, sideOk, fieldsOk, recordOk, recordsOk, risingFrom, quotesRefusalOf}
 use Rattle.halves.specs.Halves.{sizeIf}
 use Rattle.best.specs.declared.Found.{Found}
-use Rattle.best.specs.Lasts.{earlier, lastOf, lastsFrom}
+use Rattle.earlier.specs.Earlier.{earlier, numberOk}
+use Rattle.best.specs.Lasts.{lastOf, lastsFrom}
 use Rattle.best.specs.Best.{nobody, bestPrice, sizeAt, bestOf}
+use Rattle.best.specs.declared.Looked.{Looked}
+use Rattle.best.specs.Examined.{allKnown, examinedIn}
 use Rattle.best.specs.Found.{foundIn, refused, foundOf}
+use Rattle.best.specs.Looked.{lookRefusalOf, lookedIn, unread, lookedOf}
 use Rattle.filling.specs.Filling.{filled, fillRefusalOf, fillingOf}
 use Rattle.specimen.specs.Good.{goodCase}
 
@@ -94,3 +98,49 @@ twenty-three = refl
 pub good-filled : fillingOf (post 1 34199 500 700 3 1 ++ post 2 34200 600 650 4 2) goodCase ≡ (0, stored goodCase 20 (bytes 4 500 ++ bytes 4 700 ++ bytes 4 3 ++ bytes 4 1))
 unfolding fillingOf fillRefusalOf filled refusalOf headOk zerosOk listsOk codesOk codeOk codeByteOk pricesOk quotesPriced countsOk timesOk limitsOk factsOf tradeOf marketOf requestOf partyAt settlementOf momentOf sideOf kindOf dayOf agreementOf flagOf foundOf foundIn quotesRefusalOf wholeQuotes isQuote sideOk fieldsOk recordOk recordsOk risingFrom postedAt postedFrom earlier lastOf lastsFrom bestPrice sizeIf sizeAt bestOf numberAt priceOf inRange
 good-filled = refl
+
+-- ---- how many quotes are read (RULE R16.22), with the number of quotes before the trade
+
+-- exchanges 2 to 15, one quote each at second 20: a bid of 400 for one
+abbrev fourteen : List ℕ
+fourteen =
+    post 2 20 400 none 1 0 ++ post 3 20 400 none 1 0 ++ post 4 20 400 none 1 0 ++ post 5 20 400 none 1 0 ++ post 6 20 400 none 1 0 ++ post 7 20 400 none 1 0
+    ++ post 8 20 400 none 1 0 ++ post 9 20 400 none 1 0 ++ post 10 20 400 none 1 0 ++ post 11 20 400 none 1 0 ++ post 12 20 400 none 1 0
+    ++ post 13 20 400 none 1 0 ++ post 14 20 400 none 1 0 ++ post 15 20 400 none 1 0
+
+abbrev looked : Quote → Quote → ℕ → Looked
+looked bid offer n = record { found = found bid offer; examined = n }
+
+-- Nineteen quotes, eighteen before the trade. Walking back, exchange 1 sends none, which makes it known; then come the fourteen; exchange 3 once more, which
+-- is read; then exchange 16, by which all are known. It is read, the seventeenth, and the one before it is not.
+pub seventeen-read : lookedOf (post 1 5 900 950 3 1 ++ post 16 10 300 700 2 4 ++ post 3 15 800 810 9 9 ++ fourteen ++ post 1 29 none none 0 0 ++ post 5 30 999 999 9 9) 30 18
+    ≡ looked (side 400 14) (side 700 4) 17
+unfolding lookedOf lookRefusalOf numberOk lookedIn examinedIn allKnown foundIn wholeQuotes isQuote sideOk fieldsOk recordOk recordsOk risingFrom postedAt postedFrom earlier lastOf lastsFrom bestPrice sizeIf sizeAt bestOf numberAt priceOf inRange
+seventeen-read = refl
+
+-- Without exchange 16 fifteen are known, and that will not do: all seventeen before the trade are read.
+pub all-read : lookedOf (post 1 5 900 950 3 1 ++ post 1 10 300 700 2 4 ++ post 3 15 800 810 9 9 ++ fourteen) 30 17 ≡ looked (side 400 14) (side 700 4) 17
+unfolding lookedOf lookRefusalOf numberOk lookedIn examinedIn allKnown foundIn wholeQuotes isQuote sideOk fieldsOk recordOk recordsOk risingFrom postedAt postedFrom earlier lastOf lastsFrom bestPrice sizeIf sizeAt bestOf numberAt priceOf inRange
+all-read = refl
+
+-- Nothing before the trade: nothing is read.
+pub none-read : lookedOf (post 1 30 500 700 3 1) 30 0 ≡ looked nobody nobody 0
+unfolding lookedOf lookRefusalOf numberOk lookedIn examinedIn allKnown foundIn wholeQuotes isQuote sideOk fieldsOk recordOk recordsOk risingFrom postedAt postedFrom earlier lastOf lastsFrom bestPrice sizeIf sizeAt bestOf numberAt priceOf inRange
+none-read = refl
+
+-- A number one too low or one too high is refused, and so is one beyond the list; at second 86,400 that is told, whatever the number.
+pub one-too-few : lookedOf (post 1 10 500 700 3 1 ++ post 2 20 500 650 4 2) 30 1 ≡ unread 28
+unfolding lookedOf lookRefusalOf numberOk wholeQuotes isQuote sideOk fieldsOk recordOk recordsOk risingFrom postedAt postedFrom earlier numberAt priceOf inRange
+one-too-few = refl
+
+pub one-too-many : lookedOf (post 1 10 500 700 3 1 ++ post 2 30 500 650 4 2) 30 2 ≡ unread 28
+unfolding lookedOf lookRefusalOf numberOk wholeQuotes isQuote sideOk fieldsOk recordOk recordsOk risingFrom postedAt postedFrom earlier numberAt priceOf inRange
+one-too-many = refl
+
+pub beyond-the-list : lookedOf (post 1 10 500 700 3 1) 30 2 ≡ unread 28
+unfolding lookedOf lookRefusalOf numberOk wholeQuotes isQuote sideOk fieldsOk recordOk recordsOk risingFrom postedAt postedFrom earlier numberAt priceOf inRange
+beyond-the-list = refl
+
+pub time-first : lookedOf (post 1 20 500 700 3 1) 86400 7 ≡ unread 23
+unfolding lookedOf lookRefusalOf wholeQuotes isQuote sideOk fieldsOk recordOk recordsOk risingFrom postedAt postedFrom numberAt priceOf inRange
+time-first = refl

@@ -1,7 +1,7 @@
--- The best bid and offer of the exchanges' quotes (RULE R16.1 to R16.9, R16.13): demands 1 and 2 of the lookup, and what it does not depend on. First what
--- the definitions answer, then, as "so every call", what the promises of the functions allow.
+-- The best bid and offer of the exchanges' quotes (RULE R16.1 to R16.9, R16.13): what the quotes alone decide, what that does not depend on, and what is
+-- printed of it. What a lookup answers, which brings the number of quotes before the trade, stands in Counted.
 use Prim.Native.Nat.{ℕ, _+_, _≤_, min}
-use mathlib.Core.Path.{_≡_, sym, ap, _∙_}
+use mathlib.Core.Path.{_≡_, sym, _∙_}
 use mathlib.Core.Logic.{_⊎_, ⊎-elim}
 use mathlib.Core.List.{List, _++_}
 use lib.ListN.{length}
@@ -20,7 +20,8 @@ use Rattle.halves.specs.Halves.{same}
 use Rattle.best.specs.declared.Found.{Found}
 use Rattle.best.specs.declared.Last.{Last}
 use Rattle.best.specs.declared.Last.the-variants.{Sent}
-use Rattle.best.specs.Lasts.{earlier, lastOf, lasts}
+use Rattle.earlier.specs.Earlier.{earlier}
+use Rattle.best.specs.Lasts.{lastOf, lasts}
 use Rattle.best.specs.Best.{saidBy, bestOf}
 use Rattle.best.specs.Found.{bestIn, foundIn, refused, foundOf}
 use Rattle.best.proofs as best
@@ -29,9 +30,6 @@ use Rattle.spelling.specs.Times.{timeIn, timeText}
 use Rattle.spelling.proofs as spelling
 use Rattle.standing.specs.Standing.{sayerOf, sizesShown, bestText}
 use Rattle.standing.proofs as standing
-use Rattle.desk.specs.declared.DeskBest.{DeskBest}
-use Rattle.desk.specs.Desk.{deskBest}
-use Rattle.desk.proofs as desk
 use Rattle.lookups.specs.Lookups.{Passes, AllLate, AllOvertaken, Whole, NoBetter}
 use Rattle.lookups.proofs as lookups
 use Rattle.demands.specs.Ends.{quoteNumbers, Told}
@@ -41,15 +39,13 @@ use Rattle.demands.specs.Why as why
 -- ---- demand 1: nothing is asked, and every byte string and every time gets a result or one of 20 to 23
 pub nothing-asked : (κ : Lfts 1) (κs : Lfts 3) (s w b : RefT (List ℕ)) (t e : ℕ)
     → quotes.check_quotes.Reads.Asked κ (s, (t, tt))
-    × best.find_best.Reads.Asked κ (s, (t, tt))
     × best.last_before.Reads.Asked κ (s, (t, (e, tt)))
     × standing.print_best.Reads.Asked κs (s, (w, (b, tt)))
-    × desk.desk_best_quotes.Reads.Asked κ (s, (t, tt))
-nothing-asked κ κs s w b t e = (tt, tt, tt, tt, tt)
+nothing-asked κ κs s w b t e = (tt, tt, tt)
 
 pub lookup-told : (s : List ℕ) (t : ℕ) → Told quoteNumbers (foundOf s t .refusal)
 unfolding quotesRefusalOf
-lookup-told s t = rw (lookups.Looked.found-number s t) (why.told (quoteTests s t))
+lookup-told s t = rw (best.Own.found-number s t) (why.told (quoteTests s t))
 
 -- Beside a number stand none and none, with sizes of 0.
 pub refused-none : (s : List ℕ) (t : ℕ) → (foundOf s t .refusal ≡ 0 → ⊥) → foundOf s t ≡ refused (foundOf s t .refusal)
@@ -80,37 +76,11 @@ found-is-best s t good = rw (good-found s t good) (why.best-of-sixteen Bid (earl
 pub found-passes : (s : List ℕ) (t : ℕ) → Passes (foundOf s t)
 found-passes = lookups.Fit.found-passes
 
--- ---- so every call of `find_best` and `desk_best_quotes`
+-- ---- so every call of `check_quotes` and `last_before`
 module _ (κ : Lfts 1) (s s' : RefT (List ℕ)) (t t' : ℕ) where
-  pub find-best-ends : (r : Found) → best.find_best.Reads.Post κ (s, (t, tt)) r (s', (t', tt)) → Told quoteNumbers (r .refusal)
-  find-best-ends r p = rw p (lookup-told (now s) t)
-
-  pub find-best-says : (r : Found) → best.find_best.Reads.Post κ (s, (t, tt)) r (s', (t', tt)) → r ≡ foundOf (now s) t
-  find-best-says r p = p
-
-  pub find-best-passes : (r : Found) → best.find_best.Reads.Post κ (s, (t, tt)) r (s', (t', tt)) → Passes r
-  find-best-passes r p = rw p (found-passes (now s) t)
-
-  pub find-best-refused : (r : Found) → best.find_best.Reads.Post κ (s, (t, tt)) r (s', (t', tt)) → (r .refusal ≡ 0 → ⊥) → r ≡ refused (r .refusal)
-  find-best-refused r p = rw p (refused-none (now s) t)
-
-  pub find-best-is-best : (r : Found) → best.find_best.Reads.Post κ (s, (t, tt)) r (s', (t', tt)) → r .refusal ≡ 0 → Best (now s) t r
-  find-best-is-best r p = rw p (found-is-best (now s) t)
-
-  pub desk-best-quotes-ends : (r : DeskBest) → desk.desk_best_quotes.Reads.Post κ (s, (t, tt)) r (s', (t', tt)) → Told quoteNumbers (r .refusal)
-  desk-best-quotes-ends r p = rw p (lookup-told (now s) t)
-
-  pub desk-best-quotes-says : (r : DeskBest) → desk.desk_best_quotes.Reads.Post κ (s, (t, tt)) r (s', (t', tt)) → r ≡ deskBest (foundOf (now s) t)
-  desk-best-quotes-says r p = p
-
-  -- beside a number none, none, 0 and 0
-  pub desk-best-quotes-refused : (r : DeskBest) → desk.desk_best_quotes.Reads.Post κ (s, (t, tt)) r (s', (t', tt)) → (r .refusal ≡ 0 → ⊥)
-      → r ≡ record { refusal = r .refusal; bid = 4294967295; offer = 4294967295; «bid_size» = 0; «offer_size» = 0 }
-  desk-best-quotes-refused r p = rw p (λ some. ap deskBest (refused-none (now s) t some))
-
   -- `check_quotes` tells the number alone.
   pub check-quotes-says : (r : ℕ) → quotes.check_quotes.Reads.Post κ (s, (t, tt)) r (s', (t', tt)) → r ≡ foundOf (now s) t .refusal
-  check-quotes-says r p = p ∙ sym (lookups.Looked.found-number (now s) t)
+  check-quotes-says r p = p ∙ sym (best.Own.found-number (now s) t)
 
   -- `last_before` tells what one exchange last sent.
   pub last-before-says : (e e' : ℕ) (r : Last) → best.last_before.Reads.Post κ (s, (t, (e, tt))) r (s', (t', (e', tt))) → r ≡ lastOf e (earlier t (postedIn (now s)))
@@ -134,32 +104,10 @@ module _ (a r b : List ℕ) (t : ℕ) (wa : Whole a) (wr : Whole r) (good : foun
   pub same-found : ChangesNothing a r b t → foundOf (a ++ (r ++ b)) t ≡ foundOf (a ++ b) t
   same-found = ⊎-elim late-nothing overtaken-nothing
 
-  equal : (s u : List ℕ) → s ≡ a ++ (r ++ b) → u ≡ a ++ b → ChangesNothing a r b t → foundOf s t ≡ foundOf u t
-  equal s u long short nothing = ap (λ (l : List ℕ). foundOf l t) long ∙ same-found nothing ∙ sym (ap (λ (l : List ℕ). foundOf l t) short)
-
-  -- So every two calls of `find_best`, or of `desk_best_quotes`, one with the records r and one without them.
-  pub find-best-same : (κ κ' : Lfts 1) (s s' u u' : RefT (List ℕ)) (t' t″ : ℕ) (x y : Found) → now s ≡ a ++ (r ++ b) → now u ≡ a ++ b → ChangesNothing a r b t
-      → best.find_best.Reads.Post κ (s, (t, tt)) x (s', (t', tt)) → best.find_best.Reads.Post κ' (u, (t, tt)) y (u', (t″, tt)) → x ≡ y
-  find-best-same κ κ' s s' u u' t' t″ x y long short nothing p q = p ∙ equal (now s) (now u) long short nothing ∙ sym q
-
-  pub desk-best-quotes-same : (κ κ' : Lfts 1) (s s' u u' : RefT (List ℕ)) (t' t″ : ℕ) (x y : DeskBest) → now s ≡ a ++ (r ++ b) → now u ≡ a ++ b → ChangesNothing a r b t
-      → desk.desk_best_quotes.Reads.Post κ (s, (t, tt)) x (s', (t', tt)) → desk.desk_best_quotes.Reads.Post κ' (u, (t, tt)) y (u', (t″, tt)) → x ≡ y
-  desk-best-quotes-same κ κ' s s' u u' t' t″ x y long short nothing p q = p ∙ ap deskBest (equal (now s) (now u) long short nothing) ∙ sym q
-
 -- Two lists in which each of the sixteen exchanges last sent the same before the trade give the same.
 pub only-the-last : (s u : List ℕ) (t : ℕ) → foundOf s t .refusal ≡ 0 → foundOf u t .refusal ≡ 0
     → lasts (earlier t (postedIn s)) ≡ lasts (earlier t (postedIn u)) → foundOf s t ≡ foundOf u t
 only-the-last s u t gs gu h = good-found s t gs ∙ lookups.Nothing.found-same _ _ h ∙ sym (good-found u t gu)
-
--- So every two calls on such lists.
-module _ (κ κ' : Lfts 1) (s s' u u' : RefT (List ℕ)) (t t' t″ : ℕ) (gs : foundOf (now s) t .refusal ≡ 0) (gu : foundOf (now u) t .refusal ≡ 0)
-    (alike : lasts (earlier t (postedIn (now s))) ≡ lasts (earlier t (postedIn (now u)))) where
-  pub find-best-alike : (x y : Found) → best.find_best.Reads.Post κ (s, (t, tt)) x (s', (t', tt)) → best.find_best.Reads.Post κ' (u, (t, tt)) y (u', (t″, tt)) → x ≡ y
-  find-best-alike x y p q = p ∙ only-the-last (now s) (now u) t gs gu alike ∙ sym q
-
-  pub desk-best-quotes-alike : (x y : DeskBest) → desk.desk_best_quotes.Reads.Post κ (s, (t, tt)) x (s', (t', tt))
-      → desk.desk_best_quotes.Reads.Post κ' (u, (t, tt)) y (u', (t″, tt)) → x ≡ y
-  desk-best-quotes-alike x y p q = p ∙ ap deskBest (only-the-last (now s) (now u) t gs gu alike) ∙ sym q
 
 -- ---- whose price it is: what is printed for people
 

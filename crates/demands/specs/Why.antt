@@ -40,10 +40,11 @@ use Rattle.best.specs.Best.{saidBy, bestOf}
 use Rattle.best.specs.Found.{bestIn}
 use Rattle.quotes.specs.Quotes.{wholeQuotes, quotesRefusalOf, listTests}
 use Rattle.filling.specs.Filling.{quoted, foundFor, fillRefusalOf, fillingOf}
-use Rattle.lookups.proofs.Looked.{found-number}
+use Rattle.best.proofs.Own.{found-number}
 use Rattle.lookups.specs.Lookups.{NoBetter}
 use Rattle.lookups.proofs.Better.{no-better-said, is-one}
-use Rattle.lookups.proofs.Again.{filled-twice, fill-number, refused-kept, case-good, fill-bytes, fill-facts}
+use Rattle.filling.proofs.Answers.{number-told}
+use Rattle.lookups.proofs.Again.{filled-twice, refused-kept, case-good, fill-bytes, fill-facts}
 use Rattle.lookups.proofs.Filled.{filled-length, filled-outside}
 use Rattle.fillings.specs.Fillings.{fillSheetRefusalOf, filledCase, fillSheetOf}
 use Rattle.fillings.proofs.Laws.{refuses, filled-whole, sheet-as-long, case-filled}
@@ -237,7 +238,7 @@ module _ (q s : List ℕ) where
         )
     by-test false h =
         inr
-        (other fillNumbers (fillingOf q s .0) (rw (fill-number q s) fill-told) h, refused-kept q s (eqb-false (fillingOf q s .0) 0 h))
+        (other fillNumbers (fillingOf q s .0) (rw (number-told q s) fill-told) h, refused-kept q s (eqb-false (fillingOf q s .0) 0 h))
 
   pub filled-accepted : fillingOf q s .0 ≡ 0
       → (readingOf s .refusal ≡ 0) × (readingOf (fillingOf q s .1) ≡ accepted (quoted (readingOf s .facts) (foundFor q s .bid) (foundFor q s .offer)))

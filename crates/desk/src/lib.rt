@@ -1,4 +1,4 @@
-// The desk for other programs: six functions on numbers and byte slices, in C's calling form (include/desk.h declares them). Each passes
+// The desk for other programs: seven functions on numbers and byte slices, in C's calling form (include/desk.h declares them). Each passes
 // its callee's promise on in the page's numbers, and asks nothing beyond what its types say.
 ghost use mathlib.Core.Path.{_≡_};
 ghost use lib.ListN.{length};
@@ -7,10 +7,11 @@ ghost use Rattle.cases.specs.Cases.{refusalOf};
 ghost use Rattle.answer.specs.Answer.{caseOf};
 ghost use Rattle.sheet.specs.Sheet.{sheetOf};
 ghost use Rattle.report.specs.Report.{textOf};
-ghost use Rattle.best.specs.Found.{foundOf};
+ghost use Rattle.earlier.specs.Earlier.{quotesBeforeOf};
+ghost use Rattle.best.specs.Looked.{lookedOf};
 ghost use Rattle.filling.specs.Filling.{fillingOf};
 ghost use Rattle.desk.specs.Desk.{deskSheet, deskBest};
-use best::Found;
+use best::Looked;
 
 // What became of a sheet: the number where it was refused whole, else 0; the bytes written; the cases ruled and refused.
 #[repr(C)]
@@ -21,7 +22,8 @@ pub struct DeskSheet {
     pub refused: u64,
 }
 
-// What a lookup found: the number where it was refused, else 0; bid and offer in mills, 4,294,967,295 for none, and their sizes.
+// What a lookup answers: the number where it was refused, else 0; bid and offer in mills, 4,294,967,295 for none, and their sizes; how many quotes were
+// read.
 #[repr(C)]
 pub struct DeskBest {
     pub refusal: u64,
@@ -29,6 +31,7 @@ pub struct DeskBest {
     pub offer: u64,
     pub bid_size: u64,
     pub offer_size: u64,
+    pub examined: u64,
 }
 
 // Tests a case: its number, 0 if it is accepted.
@@ -69,9 +72,10 @@ pub extern "C" fn desk_print_sheet(sheet: &[u8], out: &mut [u8; 65536]) -> u64
     report::print_sheet(sheet, out) as u64
 }
 
-fn desk_best(f: Found) -> DeskBest
-    ensures { λ r. ⌜ r ≡ deskBest f ⌝ }
+fn desk_best(l: Looked) -> DeskBest
+    ensures { λ r. ⌜ r ≡ deskBest l ⌝ }
 {
+    let f = l.found;
     let bid = f.bid;
     let bid_price = bid.price;
     let offer = f.offer;
@@ -82,15 +86,24 @@ fn desk_best(f: Found) -> DeskBest
         offer: facts::price_number(offer_price) as u64,
         bid_size: bid.size.0 as u64,
         offer_size: offer.size.0 as u64,
+        examined: l.examined as u64,
     }
 }
 
-// Finds the best bid and offer of the exchanges' quotes at a trade.
+// The number of quotes strictly before a trade: 0 where the quotes or the time are refused.
 #[no_mangle]
-pub extern "C" fn desk_best_quotes(quotes: &[u8], trade_time: u32) -> DeskBest
-    ensures { λ r. ⌜ r ≡ deskBest (foundOf (now (quotes .entry)) «trade_time») ⌝ }
+pub extern "C" fn desk_quotes_before(quotes: &[u8], trade_time: u32) -> u64
+    ensures { λ r. ⌜ r ≡ quotesBeforeOf (now (quotes .entry)) «trade_time» ⌝ }
 {
-    desk_best(best::find_best(quotes, trade_time))
+    earlier::quotes_before(quotes, trade_time) as u64
+}
+
+// Finds the best bid and offer of the exchanges' quotes at a trade, with the number of quotes strictly before it.
+#[no_mangle]
+pub extern "C" fn desk_best_quotes(quotes: &[u8], trade_time: u32, before: u64) -> DeskBest
+    ensures { λ r. ⌜ r ≡ deskBest (lookedOf (now (quotes .entry)) «trade_time» before) ⌝ }
+{
+    desk_best(best::find_best(quotes, trade_time, before as usize))
 }
 
 // Fills a case with the best bid and offer at its own execution time: its number, 0 if it is filled.

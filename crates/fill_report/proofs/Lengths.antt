@@ -1,4 +1,4 @@
--- No text is longer than 131,072 bytes: the longest has 600 lines of 118 bytes, and one of 35.
+-- No text is longer than 131,072 bytes: the longest has 600 lines of 118 bytes, and one of 74.
 use Prim.Native.Nat.{ℕ, _-_, _≤_}
 use mathlib.Core.List.{List, []}
 use native.Mathlib.Omega.{arith}
@@ -12,7 +12,7 @@ use Rattle.text.specs.Text.{letters}
 use Rattle.phrases.proofs.Lengths.{refusal-most}
 use Rattle.sheet.specs.Sheet.{casesIn}
 use Rattle.sheet.proofs.Turns.{whole-length}
-use Rattle.fillings.specs.Fillings.{fillNumber, filledIn, fillSheetRefusalOf}
+use Rattle.fillings.specs.Fillings.{fillNumber, filledIn, readIn, fillSheetRefusalOf}
 use Rattle.fillings.proofs.Laws.{whole-first}
 use Rattle.fill_report.specs.Told.{leftLine, toldOf, told, countLine, casesText, ownerWord, wholeLine, fillText}
 
@@ -24,9 +24,9 @@ told-most : (index number : ℕ) → length (toldOf index number) ≤ 118
 unfolding toldOf
 told-most index number = either (λ (w : List ℕ). length w ≤ 118) (eqb number 0) [] (leftLine index number) (λ _. omega arith) (λ _. left-most index number)
 
-count-most : (filled left : ℕ) → length (countLine filled left) ≤ 35
+count-most : (filled left read : ℕ) → length (countLine filled left read) ≤ 74
 unfolding countLine
-count-most filled left = simp length-append (omega (arith, decimal-length filled, decimal-length left))
+count-most filled left read = simp length-append (omega (arith, decimal-length filled, decimal-length left, decimal-length read))
 
 owner-most : (number : ℕ) → length (ownerWord number) ≤ 7
 unfolding ownerWord
@@ -38,7 +38,7 @@ whole-most number = simp length-append (omega (arith, owner-most number, refusal
 cases-most : (q s : List ℕ) → length s ≤ 52800 → length (casesText q s (casesIn s)) ≤ 131072
 cases-most q s h =
     let rows = row-most (told q s) 118 (λ k. told-most k (fillNumber q s k)) (casesIn s) in
-    simp length-append (omega (arith, rows, count-most (filledIn q s (casesIn s)) (casesIn s - filledIn q s (casesIn s))))
+    simp length-append (omega (arith, rows, count-most (filledIn q s (casesIn s)) (casesIn s - filledIn q s (casesIn s)) (readIn q s (casesIn s))))
 
 pub text-most : (q s : List ℕ) → length (fillText q s) ≤ 131072
 unfolding fillText

@@ -11,12 +11,8 @@ use Rattle.wire.specs.Laid.{laid, row}
 use Rattle.wire.proofs.Laid.{laid-part}
 use Rattle.wire.proofs.Rows.{Ran}
 use Rattle.sheet.specs.Sheet.{casesIn}
-use Rattle.fillings.specs.Fillings.{fillSheetRefusalOf, filledOne, filledIn}
+use Rattle.fillings.specs.Fillings.{fillSheetRefusalOf, filledOne, filledIn, readIn}
 use Rattle.fill_report.specs.Told.{leftLine, toldOf, told, countLine, casesText, wholeLine, fillText}
-
--- a run of appends, under the text's own name
-pub as-text : (w v l m : List ℕ) (k : ℕ) → w ≡ v → Ran w l k m → Ran v l k m
-as-text w v l m k e h = rw (← e) h
 
 -- ---- a case, by its number: what is said, whether it counts, and what was written for it
 abbrev pub Tells : ℕ → ℕ → List ℕ → List ℕ → ℕ → ℕ → Type 0
@@ -32,15 +28,15 @@ unfolding toldOf filledOne
 tells-left k n number bytes l m e h long wrote = rw (← e) (simp (ne-eqb number 0 h) (long, refl, wrote))
 
 -- ---- what is said of the cases, then the counts in the part after it
-pub whole-text : (q s l m z : List ℕ) (n bytes filled last : ℕ)
-    → (bytes ≡ length (row (told q s) n)) × (filled ≡ filledIn q s n) × (m ≡ laid (row (told q s) n) l)
-    → last ≡ length (countLine filled (n - filled))
-    → z ≡ laid (countLine filled (n - filled)) (midOf bytes (length m - bytes) m)
+pub whole-text : (q s l m z : List ℕ) (n bytes filled read last : ℕ)
+    → (bytes ≡ length (row (told q s) n)) × (filled ≡ filledIn q s n) × (m ≡ laid (row (told q s) n) l) → read ≡ readIn q s n
+    → last ≡ length (countLine filled (n - filled) read)
+    → z ≡ laid (countLine filled (n - filled) read) (midOf bytes (length m - bytes) m)
     → Ran (casesText q s n) l (bytes + last) (putMid bytes (length m - bytes) m z)
-whole-text q s l m z n bytes filled last c long wrote =
+whole-text q s l m z n bytes filled read last c sum long wrote =
     let w = row (told q s) n in
-    let v = countLine filled (n - filled) in
-    rw (← c .1) (omega (arith, length-append w v, c .0), laid-part w v l m z bytes (c .2) (c .0) wrote)
+    let v = countLine filled (n - filled) read in
+    rw (← c .1, ← sum) (omega (arith, length-append w v, c .0), laid-part w v l m z bytes (c .2) (c .0) wrote)
 
 -- ---- the text, by the number of the whole
 module _ (q s : List ℕ) (n : ℕ) (e : n ≡ fillSheetRefusalOf q s) where

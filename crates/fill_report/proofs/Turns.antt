@@ -10,23 +10,25 @@ use borrow.Rule.Slice.PartMut.{midOf, putMid}
 use Rattle.wire.specs.Laid.{row}
 use Rattle.wire.proofs.Rows.{Ran, row-start, row-turn}
 use Rattle.sheet.specs.Sheet.{caseAt, casesIn}
-use Rattle.filling.specs.Filling.{fillingOf}
-use Rattle.fillings.specs.Fillings.{fillNumber, filledOne, filledIn}
+use Rattle.filling.specs.Filling.{fillingOf, fillReadOf}
+use Rattle.fillings.specs.Fillings.{fillNumber, filledOne, filledIn, caseRead, readIn}
 use Rattle.fill_report.specs.Told.{told}
 use Rattle.fill_report.proofs.Lines.{Tells}
 
-pub record Turn (q s out₀ out : List ℕ) (i at filled : ℕ) : Type 0 where
+pub record Turn (q s out₀ out : List ℕ) (i at filled read : ℕ) : Type 0 where
   pub within : i ≤ casesIn s
   pub ran : Ran (row (told q s) i) out₀ at out
   pub counted : filled ≡ filledIn q s i
+  pub summed : read ≡ readIn q s i
   pub most : at ≤ i * 118
   pub few : filled ≤ i
+  pub least : read ≤ i * 2000
   pub same : length out ≡ length out₀
 
-pub first : (q s out : List ℕ) → Turn q s out out 0 0 0
-unfolding filledIn
+pub first : (q s out : List ℕ) → Turn q s out out 0 0 0 0
+unfolding filledIn readIn
 first q s out =
-    record { within = omega arith; ran = row-start (told q s) out; counted = refl; most = zero-le; few = omega arith; same = refl }
+    record { within = omega arith; ran = row-start (told q s) out; counted = refl; summed = refl; most = zero-le; few = omega arith; least = zero-le; same = refl }
 
 -- the part of the sheet that is lent for a turn is case i
 lent : (s : List ℕ) (i : ℕ) → take (i * 88 + 88 - i * 88) (drop (i * 88) s) ≡ caseAt s i
@@ -34,20 +36,23 @@ unfolding caseAt
 lent s i = rw (add-sub-cancel-left (i * 88) 88)
 
 -- a turn: what is said of case i goes into the part of the buffer from its place on
-pub next : (q s out₀ out ys : List ℕ) (i at filled bytes one : ℕ) → Turn q s out₀ out i at filled → i < casesIn s
+pub next : (q s out₀ out ys : List ℕ) (i at filled read bytes one more-read : ℕ) → Turn q s out₀ out i at filled read → i < casesIn s
     → Tells i (fillingOf q (take (i * 88 + 88 - i * 88) (drop (i * 88) s)) .0) (midOf at (length out - at) out) ys bytes one
-    → (bytes ≤ 118) × (one ≤ 1)
+    → more-read ≡ fillReadOf q (take (i * 88 + 88 - i * 88) (drop (i * 88) s)) → (bytes ≤ 118) × (one ≤ 1) × (more-read ≤ 2000)
     → length (putMid at (length out - at) out ys) ≡ length out
-    → Turn q s out₀ (putMid at (length out - at) out ys) (i + 1) (at + bytes) (filled + one)
-unfolding filledIn
-next q s out₀ out ys i at filled bytes one t more e short same =
+    → Turn q s out₀ (putMid at (length out - at) out ys) (i + 1) (at + bytes) (filled + one) (read + more-read)
+unfolding filledIn readIn
+next q s out₀ out ys i at filled read bytes one more-read t more e er short same =
     let f : Tells i (fillNumber q s i) (midOf at (length out - at) out) ys bytes one = rw (lent s i) at e in
     let o : one ≡ filledOne (fillNumber q s i) = f .1 in
+    let r : more-read ≡ caseRead q s i = rw (lent s i) at er in
     record {
       within = omega arith;
       ran = row-turn (told q s) out₀ out ys i at bytes (t .ran) (f .0) (f .2);
       counted = rw add-one (cc);
+      summed = rw add-one (cc);
       most = rw (add-one, suc-mul) (omega arith);
       few = omega arith;
+      least = rw (add-one, suc-mul) (omega arith);
       same = same ∙ t .same;
     }

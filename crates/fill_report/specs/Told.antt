@@ -1,5 +1,5 @@
--- What is said of a sheet that is filled: a line for each case that is left as it was, then how many are filled and how many left; or the one line
--- that refuses the whole.
+-- What is said of a sheet that is filled (RULE R16.19, R16.24): a line for each case that is left as it was, then how many are filled, how many left and
+-- how many quotes were read; or the one line that refuses the whole.
 use Prim.Native.Nat.{ℕ, _-_}
 use mathlib.Core.List.{List, [], _∷_, _++_}
 use lib.Dec.{eqb}
@@ -8,7 +8,7 @@ use Rattle.wire.specs.Tests.{pick}
 use Rattle.text.specs.Text.{letters, decimalOf}
 use Rattle.phrases.specs.Phrases.{refusalText}
 use Rattle.sheet.specs.Sheet.{casesIn}
-use Rattle.fillings.specs.Fillings.{fillSheetRefusalOf, fillNumber, filledIn}
+use Rattle.fillings.specs.Fillings.{fillSheetRefusalOf, fillNumber, filledIn, readIn}
 
 -- a case that is left as it was: `#` joined to its index from 0, and the line of its number
 unfoldable pub leftLine : ℕ → ℕ → List ℕ
@@ -22,13 +22,13 @@ toldOf index number = pick (eqb number 0) [] (leftLine index number)
 abbrev pub told : List ℕ → List ℕ → ℕ → List ℕ
 told quotes s k = toldOf k (fillNumber quotes s k)
 
--- the last line: how many cases are filled, and how many left; 10 is the line feed
-unfoldable pub countLine : ℕ → ℕ → List ℕ
-countLine filled left = decimalOf filled ++ letters " filled, " ++ decimalOf left ++ letters " left" ++ (10 ∷ [])
+-- the last line: how many cases are filled, how many left, and how many quotes were read for all of them; 10 is the line feed
+unfoldable pub countLine : ℕ → ℕ → ℕ → List ℕ
+countLine filled left read = decimalOf filled ++ letters " filled, " ++ decimalOf left ++ letters " left; " ++ decimalOf read ++ (letters " quotes read over all cases" ++ (10 ∷ []))
 
 -- of n cases: what is said of each, in order, then the counts
 abbrev pub casesText : List ℕ → List ℕ → ℕ → List ℕ
-casesText quotes s n = row (told quotes s) n ++ countLine (filledIn quotes s n) (n - filledIn quotes s n)
+casesText quotes s n = row (told quotes s) n ++ countLine (filledIn quotes s n) (n - filledIn quotes s n) (readIn quotes s n)
 
 -- whose bytes are refused: the sheet's with 10, the quotes' with 20 to 22
 unfoldable pub ownerWord : ℕ → List ℕ

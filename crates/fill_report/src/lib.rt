@@ -5,14 +5,15 @@ ghost use Prim.Native.Nat.{_*_, _≤_};
 ghost use lib.ListN.{length, take};
 ghost use Rattle.wire.specs.Laid.{laid, row};
 ghost use Rattle.sheet.specs.Sheet.{casesIn};
-ghost use Rattle.filling.specs.Filling.{fillingOf};
-ghost use Rattle.fillings.specs.Fillings.{filledOne, filledIn};
+ghost use Rattle.filling.specs.Filling.{fillingOf, fillReadOf};
+ghost use Rattle.fillings.specs.Fillings.{filledOne, filledIn, readIn};
 ghost use Rattle.fill_report.specs.Told.{leftLine, toldOf, told, countLine, casesText, ownerWord, wholeLine, fillText};
 
-// What has been said: how many bytes, and how many cases are filled.
+// What has been said: how many bytes, how many cases are filled, and how many quotes were read for them.
 struct Said {
     bytes: usize,
     filled: usize,
+    read: usize,
 }
 
 // ---- the lines, each at the start of the buffer
@@ -29,14 +30,16 @@ fn put_left(out: &mut [u8], index: u32, number: u8) -> usize
 }
 
 // The last line.
-fn put_counts(out: &mut [u8], filled: u32, left: u32) -> usize
-    requires { ⌜ 35 ≤ length (now out) ⌝ }
-    ensures { λ r. ⌜ (r ≡ length (countLine filled left)) × (now (out .exit) ≡ laid (countLine filled left) (now (out .entry))) × (r ≤ 35) ⌝ }
+fn put_counts(out: &mut [u8], filled: u32, left: u32, read: u32) -> usize
+    requires { ⌜ 74 ≤ length (now out) ⌝ }
+    ensures { λ r. ⌜ (r ≡ length (countLine filled left read)) × (now (out .exit) ≡ laid (countLine filled left read) (now (out .entry))) × (r ≤ 74) ⌝ }
 {
     let first = text::add_decimal(out, 0, filled);
-    let word = text::add_word(out, first, b" filled, ");
-    let second = text::add_decimal(out, word, left);
-    text::add_word(out, second, b" left\n")
+    let middle = text::add_word(out, first, b" filled, ");
+    let second = text::add_decimal(out, middle, left);
+    let word = text::add_word(out, second, b" left; ");
+    let third = text::add_decimal(out, word, read);
+    text::add_word(out, third, b" quotes read over all cases\n")
 }
 
 // Whose bytes are refused.
@@ -65,18 +68,21 @@ fn put_refused(out: &mut [u8], number: u8) -> usize
 fn put_case(quotes: &[u8], case: &[u8], index: u32, out: &mut [u8]) -> Said
     requires { ⌜ 118 ≤ length (now out) ⌝ }
     ensures { λ r. ⌜ (r .bytes ≡ length (toldOf index (fillingOf (now (quotes .entry)) (now (case .entry)) .0))) × (r .filled ≡ filledOne (fillingOf (now (quotes .entry)) (now (case .entry)) .0)) × (now (out .exit) ≡ laid (toldOf index (fillingOf (now (quotes .entry)) (now (case .entry)) .0)) (now (out .entry))) ⌝ }
-    ensures { λ r. ⌜ (r .bytes ≤ 118) × (r .filled ≤ 1) ⌝ }
+    ensures { λ r. ⌜ r .read ≡ fillReadOf (now (quotes .entry)) (now (case .entry)) ⌝ }
+    ensures { λ r. ⌜ (r .bytes ≤ 118) × (r .filled ≤ 1) × (r .read ≤ 2000) ⌝ }
 {
-    let number = filling::check_fill(quotes, case);
-    if number == 0 {
+    let tried = filling::check_fill(quotes, case);
+    if tried.refusal == 0 {
         return Said {
             bytes: 0,
             filled: 1,
+            read: tried.examined,
         };
     }
     Said {
-        bytes: put_left(out, index, number),
+        bytes: put_left(out, index, tried.refusal),
         filled: 0,
+        read: tried.examined,
     }
 }
 
@@ -84,20 +90,27 @@ fn put_case(quotes: &[u8], case: &[u8], index: u32, out: &mut [u8]) -> Said
 fn put_cases(quotes: &[u8], sheet: &[u8], out: &mut [u8]) -> Said
     requires { ⌜ (length (now sheet) ≤ 52800) × (casesIn (now sheet) * 118 ≤ length (now out)) ⌝ }
     ensures { λ r. ⌜ (r .bytes ≡ length (row (told (now (quotes .entry)) (now (sheet .entry))) (casesIn (now (sheet .entry))))) × (r .filled ≡ filledIn (now (quotes .entry)) (now (sheet .entry)) (casesIn (now (sheet .entry)))) × (now (out .exit) ≡ laid (row (told (now (quotes .entry)) (now (sheet .entry))) (casesIn (now (sheet .entry)))) (now (out .entry))) ⌝ }
-    ensures { λ r. ⌜ (r .bytes ≤ casesIn (now (sheet .entry)) * 118) × (r .filled ≤ casesIn (now (sheet .entry))) ⌝ }
+    ensures { λ r. ⌜ r .read ≡ readIn (now (quotes .entry)) (now (sheet .entry)) (casesIn (now (sheet .entry))) ⌝ }
+    ensures { λ r. ⌜ (r .bytes ≤ casesIn (now (sheet .entry)) * 118) × (r .filled ≤ casesIn (now (sheet .entry))) × (r .read ≤ casesIn (now (sheet .entry)) * 2000) ⌝ }
 {
     let n = sheet.len() / 88;
     let mut i: usize = 0;
     let mut at: usize = 0;
     let mut filled: usize = 0;
+    let mut read: usize = 0;
     while i < n {
         let from = i * 88;
         let p = put_case(quotes, &sheet[from..from + 88], i as u32, &mut out[at..]);
         at += p.bytes;
         filled += p.filled;
+        read += p.read;
         i += 1;
     }
-    Said { bytes: at, filled }
+    Said {
+        bytes: at,
+        filled,
+        read,
+    }
 }
 
 // The cases, then the counts.
@@ -108,7 +121,13 @@ fn put_whole(quotes: &[u8], sheet: &[u8], out: &mut [u8]) -> usize
     let p = put_cases(quotes, sheet, out);
     let end = p.bytes;
     let n = sheet.len() / 88;
-    end + put_counts(&mut out[end..], p.filled as u32, (n - p.filled) as u32)
+    end
+        + put_counts(
+            &mut out[end..],
+            p.filled as u32,
+            (n - p.filled) as u32,
+            p.read as u32,
+        )
 }
 
 // Says what filling does to a sheet, over the start of the buffer; every byte after the text stays. Answers how many bytes the text has.

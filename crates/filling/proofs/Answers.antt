@@ -1,29 +1,23 @@
 -- What filling answers and leaves of the case, by the test that decides.
-use Prim.Native.Nat.{ℕ}
+use Prim.Native.Nat.{ℕ, _≤_}
 use mathlib.Core.Path.{_≡_, refl, sym, ap, _∙_}
 use mathlib.Core.List.{List}
 use lib.ListN.{length, length-set}
 use lib.Dec.{eqb}
+use native.Mathlib.Omega.{arith}
 use borrow.Author.Tests.{eq-eqb, ne-eqb, eqb-true}
 use Rattle.wire.proofs.Tests.{either}
 use Rattle.cases.specs.Cases.{refusalOf}
 use Rattle.record.specs.Record.{factsOf}
-use Rattle.quotes.specs.Quotes.{quotesRefusalOf}
-use Rattle.best.specs.Found.{foundIn, foundOf}
-use Rattle.filling.specs.Words.{Quote, Facts, Found}
-use Rattle.filling.specs.Filling.{filled, foundFor, fillRefusalOf, fillingOf}
+use Rattle.earlier.specs.Earlier.{quotesBeforeOf}
+use Rattle.best.specs.Looked.{lookedOf}
+use Rattle.best.proofs.Own.{own-found, own-most}
+use Rattle.filling.specs.Words.{Quote, Facts, Found, Looked, Tried}
+use Rattle.filling.specs.Filling.{filled, foundFor, fillRefusalOf, fillingOf, lookedFor, fillReadOf, triedOf}
 
 filled-length : (s : List ℕ) (b o : Quote) → length (filled s b o) ≡ length s
 unfolding filled
 filled-length s b o = simp length-set
-
--- a lookup's number is that of the first test that the quotes fail
-found-number : (q : List ℕ) (t : ℕ) → foundOf q t .refusal ≡ quotesRefusalOf q t
-unfolding foundOf foundIn
-found-number q t =
-    either (λ (f : Found). f .refusal ≡ quotesRefusalOf q t) (eqb (quotesRefusalOf q t) 0) _ _
-    (λ h. sym (eqb-true (quotesRefusalOf q t) 0 h))
-    (λ _. refl)
 
 module _ (q s : List ℕ) where
   -- a filling's number, whether or not anything is written
@@ -42,11 +36,10 @@ module _ (q s : List ℕ) where
       (λ _. filled-length s (foundFor q s .bid) (foundFor q s .offer))
       (λ _. refl)
 
-  -- the case passes its tests, and the quotes decide
-  pub quotes-decide : (n m : ℕ) (facts : Facts) → n ≡ refusalOf s → n ≡ 0 → facts ≡ factsOf s → m ≡ quotesRefusalOf q (facts .trade .executed .0) → m ≡ fillingOf q s .0
-  unfolding fillRefusalOf
-  quotes-decide n m facts tested good read e =
-      sym (number-told ∙ simp (eq-eqb (refusalOf s) 0 (sym tested ∙ good)) (rw (← read) (found-number q (facts .trade .executed .0) ∙ sym e)))
+  -- no more quotes are read than there can be
+  pub read-most : fillReadOf q s ≤ 2000
+  unfolding fillReadOf
+  read-most = either (λ n. n ≤ 2000) (eqb (refusalOf s) 0) (lookedFor q s .examined) 0 (λ _. own-most q (factsOf s .trade .executed .0)) (λ _. omega arith)
 
   -- what a call answers, and what it leaves
   abbrev pub Ends : ℕ → List ℕ → Type 0
@@ -65,17 +58,29 @@ module _ (q s : List ℕ) where
   unfolding fillRefusalOf
   case-fails n e h = refuses n (simp (← e, ne-eqb n 0 h)) h
 
-  module _ (n : ℕ) (tested : n ≡ refusalOf s) (good : n ≡ 0) (facts : Facts) (read : facts ≡ factsOf s) (f : Found)
-      (looked : f ≡ foundOf q (facts .trade .executed .0)) where
-    number : fillRefusalOf q s ≡ f .refusal
+  pub tried-none : (n : ℕ) → n ≡ refusalOf s → (n ≡ 0 → ⊥) → _≡_ {A = Tried} (record { refusal = n; examined = 0 }) (triedOf q s)
+  unfolding fillReadOf
+  tried-none n e h = rw (← (case-fails n e h .0)) (simp (← e, ne-eqb n 0 h))
+
+  module _ (n : ℕ) (tested : n ≡ refusalOf s) (good : n ≡ 0) (facts : Facts) (read : facts ≡ factsOf s) (l : Looked)
+      (looked : l ≡ lookedOf q (facts .trade .executed .0) (quotesBeforeOf q (facts .trade .executed .0))) where
+    own : l .found ≡ foundFor q s
+    own = rw (looked, read) (own-found q (factsOf s .trade .executed .0))
+
+    number : fillRefusalOf q s ≡ l .found .refusal
     unfolding fillRefusalOf
-    number = simp (eq-eqb (refusalOf s) 0 (sym tested ∙ good)) (rw (← read, ← looked))
+    number = simp (eq-eqb (refusalOf s) 0 (sym tested ∙ good)) (ap (λ (f : Found). f .refusal) (sym own))
 
     -- the quotes do
-    pub quotes-fail : (f .refusal ≡ 0 → ⊥) → Ends (f .refusal) s
-    quotes-fail h = refuses (f .refusal) number h
+    pub quotes-fail : (l .found .refusal ≡ 0 → ⊥) → Ends (l .found .refusal) s
+    quotes-fail h = refuses (l .found .refusal) number h
 
     -- neither does
-    pub fills : f .refusal ≡ 0 → Ends 0 (filled s (f .bid) (f .offer))
+    pub fills : l .found .refusal ≡ 0 → Ends 0 (filled s (l .found .bid) (l .found .offer))
     unfolding fillingOf
-    fills h = ends (0, filled s (f .bid) (f .offer)) (simp (number ∙ h) (rw (← read, ← looked)))
+    fills h = ends (0, filled s (l .found .bid) (l .found .offer)) (simp (number ∙ h) (ap (λ (f : Found). (0, filled s (f .bid) (f .offer))) (sym own)))
+
+    -- what would be answered, whether they do or not
+    pub tried : _≡_ {A = Tried} (record { refusal = l .found .refusal; examined = l .examined }) (triedOf q s)
+    unfolding fillReadOf
+    tried = rw (number-told ∙ number) (simp (eq-eqb (refusalOf s) 0 (sym tested ∙ good)) (rw (looked, read)))

@@ -1,4 +1,5 @@
--- A case filled with the best bid and offer (RULE R16.10 to R16.12): which numbers it may get, what its facts become, and its bytes.
+-- A case filled with the best bid and offer (RULE R16.10 to R16.12): which numbers it may get, what its facts become, and its bytes; and how many quotes
+-- are read for it (RULE R16.24).
 use Prim.Native.Nat.{ℕ}
 use mathlib.Core.List.{List}
 use lib.Dec.{eqb}
@@ -7,8 +8,10 @@ use Rattle.wire.specs.Tests.{pick}
 use Rattle.facts.specs.Numbers.{priceNumber}
 use Rattle.record.specs.Record.{factsOf}
 use Rattle.cases.specs.Cases.{refusalOf}
+use Rattle.earlier.specs.Earlier.{quotesBeforeOf}
 use Rattle.best.specs.Found.{foundOf}
-use Rattle.filling.specs.Words.{Quote, Facts, Found}
+use Rattle.best.specs.Looked.{lookedOf}
+use Rattle.filling.specs.Words.{Quote, Facts, Found, Looked, Tried}
 
 -- ---- the facts: this bid and this offer, everything else as it was
 abbrev pub quoted : Facts → Quote → Quote → Facts
@@ -40,3 +43,14 @@ fillRefusalOf quotes s = pick (eqb (refusalOf s) 0) (foundFor quotes s .refusal)
 unfoldable pub fillingOf : List ℕ → List ℕ → ℕ × List ℕ
 fillingOf quotes s =
     pick (eqb (fillRefusalOf quotes s) 0) (0, filled s (foundFor quotes s .bid) (foundFor quotes s .offer)) (fillRefusalOf quotes s, s)
+
+-- ---- how many quotes are read: those of the lookup at the case's own execution time, with their own number; beside a refusal none
+abbrev pub lookedFor : List ℕ → List ℕ → Looked
+lookedFor quotes s = let t = factsOf s .trade .executed .0 in lookedOf quotes t (quotesBeforeOf quotes t)
+
+unfoldable pub fillReadOf : List ℕ → List ℕ → ℕ
+fillReadOf quotes s = pick (eqb (refusalOf s) 0) (lookedFor quotes s .examined) 0
+
+-- what filling would answer, before anything is written
+abbrev pub triedOf : List ℕ → List ℕ → Tried
+triedOf quotes s = record { refusal = fillingOf quotes s .0; examined = fillReadOf quotes s }

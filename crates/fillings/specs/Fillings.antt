@@ -1,5 +1,5 @@
 -- A whole sheet filled from the exchanges' quotes: the sheet and the quotes are tested once, then each case is filled as by itself (RULE R16.10 to
--- R16.12).
+-- R16.12), and the quotes that are read for them are counted (RULE R16.24).
 use Prim.Native.Nat.{ℕ, zero, suc, _+_}
 use mathlib.Core.List.{List, _∷_}
 use lib.Dec.{eqb}
@@ -7,7 +7,7 @@ use Rattle.wire.specs.Laid.{row}
 use Rattle.wire.specs.Tests.{pick, firstFailed}
 use Rattle.sheet.specs.Sheet.{caseAt, casesIn, wholeCases}
 use Rattle.quotes.specs.Quotes.{wholeQuotes, listTests}
-use Rattle.filling.specs.Filling.{fillingOf}
+use Rattle.filling.specs.Filling.{fillingOf, fillReadOf}
 
 -- ---- the sheet is tested with 10, then the quotes with 20 to 22 (RULE R3.0.11); 23 is for a trade's time, and each case has its own
 unfoldable pub fillSheetRefusalOf : List ℕ → List ℕ → ℕ
@@ -31,6 +31,14 @@ filledOne number = pick (eqb number 0) 1 0
 unfoldable pub filledIn : List ℕ → List ℕ → ℕ → ℕ
 filledIn quotes s zero = 0
 filledIn quotes s (suc k) = filledIn quotes s k + filledOne (fillNumber quotes s k)
+
+-- how many quotes are read for case k, and for the first n cases
+abbrev pub caseRead : List ℕ → List ℕ → ℕ → ℕ
+caseRead quotes s k = fillReadOf quotes (caseAt s k)
+
+unfoldable pub readIn : List ℕ → List ℕ → ℕ → ℕ
+readIn quotes s zero = 0
+readIn quotes s (suc k) = readIn quotes s k + caseRead quotes s k
 
 -- ---- the number, with what the sheet's bytes become: beside a refusal what they were, else the cases in their order
 unfoldable pub fillSheetOf : List ℕ → List ℕ → ℕ × List ℕ

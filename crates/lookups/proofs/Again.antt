@@ -11,11 +11,19 @@ use Rattle.wire.proofs.Tests.{either}
 use Rattle.record.specs.Record.{factsOf}
 use Rattle.cases.specs.Cases.{refusalOf}
 use Rattle.cases.proofs.Laws.{passed-whole}
+use Rattle.quotes.specs.Quotes.{postedIn, quotesRefusalOf}
 use Rattle.best.specs.declared.Found.{Found}
+use Rattle.earlier.specs.Earlier.{earlier, quotesBeforeOf}
+use Rattle.best.specs.declared.Looked.{Looked}
+use Rattle.best.specs.Examined.{examinedIn}
 use Rattle.best.specs.Found.{foundOf}
+use Rattle.best.specs.Looked.{lookedIn}
+use Rattle.best.proofs.Own.{found-number, own-looked}
 use Rattle.filling.specs.Words.{Facts}
-use Rattle.filling.specs.Filling.{quoted, filled, foundFor, fillRefusalOf, fillingOf}
+use Rattle.filling.specs.Filling.{quoted, filled, foundFor, fillRefusalOf, fillingOf, lookedFor, fillReadOf}
+use Rattle.filling.proofs.Answers.{number-told}
 use Rattle.lookups.proofs.Fit.{found-passes}
+use Rattle.lookups.proofs.Counted.{quotes-first}
 use Rattle.lookups.proofs.Filled.{filled-accepted, filled-again}
 
 module _ (q s : List ℕ) where
@@ -26,16 +34,23 @@ module _ (q s : List ℕ) where
       either (λ (p : ℕ × List ℕ). (p .0 ≡ 0 → ⊥) → p .1 ≡ s) (eqb (fillRefusalOf q s) 0) (0, filled s (foundFor q s .bid) (foundFor q s .offer))
       (fillRefusalOf q s, s) (λ e g. absurd (g refl)) (λ e g. refl) h
 
-  -- its number is the first that fails, of the case and then of the quotes
-  pub fill-number : fillingOf q s .0 ≡ fillRefusalOf q s
-  unfolding fillingOf
-  fill-number =
-      either (λ (p : ℕ × List ℕ). p .0 ≡ fillRefusalOf q s) (eqb (fillRefusalOf q s) 0) (0, filled s (foundFor q s .bid) (foundFor q s .offer))
-      (fillRefusalOf q s, s) (λ e. sym (eqb-true (fillRefusalOf q s) 0 e)) (λ e. refl)
+  -- for a case that is not filled nothing is read
+  pub refused-read : (fillingOf q s .0 ≡ 0 → ⊥) → fillReadOf q s ≡ 0
+  unfolding fillReadOf fillRefusalOf
+  refused-read h = by-test (eqb (refusalOf s) 0) refl where
+    t : ℕ
+    t = factsOf s .trade .executed .0
+
+    by-test : (b : Bool) → eqb (refusalOf s) 0 ≡ b → pick b (lookedFor q s .examined) 0 ≡ 0
+    by-test false e = refl
+    by-test true e =
+        let quotes : quotesRefusalOf q t ≡ 0 → ⊥
+        = λ g. h (number-told q s ∙ simp e (found-number q t ∙ g)) in
+        ap (λ (l : Looked). l .examined) (quotes-first q t (quotesBeforeOf q t) quotes)
 
   module _ (done : fillingOf q s .0 ≡ 0) where
     none : fillRefusalOf q s ≡ 0
-    none = sym fill-number ∙ done
+    none = sym (number-told q s) ∙ done
 
     -- what is filled was accepted, and so were the quotes
     pub case-good : refusalOf s ≡ 0
@@ -48,6 +63,13 @@ module _ (q s : List ℕ) where
     pub quotes-good : foundFor q s .refusal ≡ 0
     unfolding fillRefusalOf
     quotes-good = simp (eq-eqb (refusalOf s) 0 case-good) at none
+
+    -- the quotes that are read for it are those of the lookup
+    pub fill-read : fillReadOf q s ≡ examinedIn (earlier (factsOf s .trade .executed .0) (postedIn q))
+    unfolding fillReadOf lookedIn
+    fill-read =
+        let t = factsOf s .trade .executed .0 in
+        simp (eq-eqb (refusalOf s) 0 case-good) (ap (λ (l : Looked). l .examined) (own-looked q t (sym (found-number q t) ∙ quotes-good)))
 
     pub fill-bytes : fillingOf q s .1 ≡ filled s (foundFor q s .bid) (foundFor q s .offer)
     unfolding fillingOf

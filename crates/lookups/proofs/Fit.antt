@@ -16,9 +16,10 @@ use Rattle.halves.specs.Halves.{halfOf, better, same, sizeIf}
 use Rattle.best.specs.declared.Last.{Last}
 use Rattle.best.specs.declared.Last.the-variants.{Silent, Sent}
 use Rattle.best.specs.Words.{Mills, Price, At, None, Quote, Posted, Half, Bid, Offer}
-use Rattle.best.specs.Lasts.{earlier, orElse, lastOf, lastsFrom}
+use Rattle.earlier.specs.Earlier.{earlier}
+use Rattle.best.specs.Lasts.{orElse, lastOf, lastsFrom}
 use Rattle.best.specs.Best.{saidBy, bestPrice, sizeAt, bestOf}
-use Rattle.best.specs.Found.{foundIn, foundOf}
+use Rattle.best.specs.Found.{foundIn, refused, foundOf}
 use Rattle.lookups.specs.Lookups.{Passes}
 
 or-split : (a b : Bool) → (a || b) ≡ true → (a ≡ true) ⊎ (b ≡ true)
@@ -134,9 +135,12 @@ in-ok : (qs : List Posted) → Fit qs → Passes (foundIn qs)
 unfolding foundIn
 in-ok qs f = (best-ok Bid _ (lasts-ok Bid 16 1 qs f), best-ok Offer _ (lasts-ok Offer 16 1 qs f))
 
+pub refused-passes : (n : ℕ) → Passes (refused n)
+refused-passes n = (silent-ok Bid, silent-ok Bid)
+
 pub found-passes : (s : List ℕ) (t : ℕ) → Passes (foundOf s t)
 unfolding foundOf
 found-passes s t =
     either Passes (eqb (quotesRefusalOf s t) 0) _ _
     (λ e. in-ok _ (fit-earlier t (postedIn s) (fit-from s _ 0 (all-ok s t (eqb-true (quotesRefusalOf s t) 0 e)))))
-    (λ e. (silent-ok Bid, silent-ok Bid))
+    (λ e. refused-passes (quotesRefusalOf s t))

@@ -3,6 +3,8 @@ pub mod Fit
 pub mod Joined
 pub mod Fewer
 pub mod Nothing
+pub mod Walk
+pub mod Counted
 pub mod Better
 pub mod Stretches
 pub mod Filled

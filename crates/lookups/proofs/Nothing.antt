@@ -11,10 +11,12 @@ use Rattle.quotes.specs.Quotes.{postedIn}
 use Rattle.lookups.proofs.Joined.{joined-posted}
 use Rattle.best.specs.declared.Last.the-variants.{Silent, Sent}
 use Rattle.best.specs.Words.{Posted}
-use Rattle.best.specs.Lasts.{earlier, orElse, lastOf, lastsFrom, lasts}
+use Rattle.earlier.specs.Earlier.{earlier}
+use Rattle.best.specs.Lasts.{orElse, lastOf, lastsFrom, lasts}
 use Rattle.best.specs.Found.{foundIn, foundOf}
 use Rattle.best.proofs.Known.{or-nothing}
-use Rattle.lookups.proofs.Looked.{found-number, good-found}
+use Rattle.best.proofs.Own.{found-number}
+use Rattle.lookups.proofs.Looked.{good-found}
 use Rattle.lookups.proofs.Fewer.{still-good}
 use Rattle.lookups.specs.Lookups.{AllLate, AllOvertaken, Whole}
 
@@ -29,7 +31,7 @@ unfolding foundIn
 found-same ps qs h = rw h
 
 -- ---- those at the trade's second or later
-earlier-append : (t : ℕ) (ps qs : List Posted) → earlier t (ps ++ qs) ≡ earlier t ps ++ earlier t qs
+pub earlier-append : (t : ℕ) (ps qs : List Posted) → earlier t (ps ++ qs) ≡ earlier t ps ++ earlier t qs
 unfolding earlier
 earlier-append t [] qs = refl
 earlier-append t (p ∷ ps) qs =

@@ -1,7 +1,8 @@
--- What the laws of looking up and filling speak of (RULE R16.13 to R16.15).
-use Prim.Native.Nat.{ℕ, _%_, _≤_}
+-- What the laws of looking up and filling speak of (RULE R16.13 to R16.15, R16.22, R16.25).
+use Prim.Native.Nat.{ℕ, _%_, _≤_, _<_}
 use mathlib.Core.Path.{_≡_}
-use mathlib.Core.Bool.{true}
+use mathlib.Core.Bool.{true, false}
+use mathlib.Core.Logic.{_⊎_}
 use mathlib.Core.List.{List, [], _∷_}
 use lib.ListN.{length}
 use Rattle.facts.specs.declared.Price.{Price}
@@ -12,7 +13,9 @@ use Rattle.halves.specs.declared.Half.{Half}
 use Rattle.halves.specs.declared.Half.the-variants.{Bid, Offer}
 use Rattle.best.specs.declared.Found.{Found}
 use Rattle.best.specs.declared.Last.the-variants.{Sent}
-use Rattle.best.specs.Lasts.{earlier, lastOf}
+use Rattle.earlier.specs.Earlier.{earlier}
+use Rattle.best.specs.Lasts.{lastOf, lasts}
+use Rattle.best.specs.Examined.{allKnown}
 
 -- both quotes pass the tests 5 and 6 on quotes
 abbrev pub Passes : Found → Type 0
@@ -38,3 +41,8 @@ NoBetter h None r = Unit {0}
 NoBetter h (At a) None = ⊥
 NoBetter Bid (At a) (At b) = a .0 ≤ b .0
 NoBetter Offer (At a) (At b) = b .0 ≤ a .0
+
+-- a walk over the list ps ++ qs, from its end back, that reads n quotes: if qs are fewer, they do not make all sixteen known; if they are as many, they
+-- do, or there is nothing before them
+abbrev pub StopsAt : List Posted → List Posted → ℕ → Type 0
+StopsAt ps qs n = (length qs < n → allKnown (lasts qs) ≡ false) × (length qs ≡ n → (ps ≡ []) ⊎ (allKnown (lasts qs) ≡ true))

@@ -1,11 +1,12 @@
 -- What holds of quotes that are not refused: each record is in order, and no time is lower than one before it.
-use Prim.Native.Nat.{ℕ, zero, suc, _+_, _≤_, _<_}
+use Prim.Native.Nat.{ℕ, zero, suc, _+_, _%_, _≤_, _<_}
 use mathlib.Core.Path.{_≡_}
 use mathlib.Core.Bool.{true, _&&_}
 use mathlib.Core.List.{List}
 use native.Mathlib.Nat.{add-zero, zero-add, le-refl}
 use native.Mathlib.Omega.{arith}
-use lib.Dec.{leb}
+use lib.Dec.{leb, eqb}
+use lib.ListN.{length}
 use borrow.Author.Tests.{leb-true}
 use Rattle.wire.specs.Tests.{inRange}
 use Rattle.wire.proofs.Tests.{both-true, range-ends, none-fails}
@@ -24,6 +25,10 @@ module _ (s : List ℕ) (t : ℕ) (h : quotesRefusalOf s t ≡ 0) where
 
   pub all-ok : recordsOk s 0 (quotesIn s) ≡ true
   all-ok = parts .1 .0
+
+  pub few-quotes : quotesIn s ≤ 2000
+  unfolding wholeQuotes
+  few-quotes = omega (arith, leb-true (length s) 56000 (both-true (eqb (length s % 28) 0) _ (parts .0) .1))
 
   pub all-rising : rising (postedIn s) ≡ true
   all-rising = parts .1 .1 .0

@@ -1,11 +1,12 @@
 -- The records that are left from record k on, of n: none, or one and those after it; the pass over them, and the tests before and after it.
-use Prim.Native.Nat.{ℕ, suc, _+_, _-_, _*_, _≤_, _<_}
+use Prim.Native.Nat.{ℕ, zero, suc, _+_, _-_, _*_, _≤_, _<_}
 use mathlib.Core.Path.{_≡_, refl, sym, ap, _∙_}
 use mathlib.Core.Bool.{Bool, true, false, _&&_, and-assoc, and-true}
 use mathlib.Core.List.{List, [], _∷_}
 use native.Mathlib.Numerals.{add-one}
 use native.Mathlib.Omega.{arith}
 use lib.Dec.{leb, eqb}
+use lib.ListN.{length}
 use borrow.Author.Tests.{ne-eqb}
 use Rattle.wire.specs.Numbers.{numberAt}
 use Rattle.wire.specs.Tests.{pick}
@@ -20,6 +21,11 @@ none-left n k h = omega arith
 
 pub one-left : (n k : ℕ) → k < n → n - k ≡ suc (n - suc k)
 one-left n k h = omega arith
+
+pub posted-length : (s : List ℕ) (n k : ℕ) → length (postedFrom s k n) ≡ n
+unfolding postedFrom
+posted-length s zero k = refl
+posted-length s (suc n) k = ap suc (posted-length s n (suc k))
 
 module _ (s : List ℕ) (n k : ℕ) where
   pub posted-none : n ≤ k → postedFrom s k (n - k) ≡ []

@@ -8,7 +8,7 @@ use lib.ListN.{length}
 use Rattle.wire.specs.Laid.{row}
 use Rattle.text.specs.Text.{laidAt}
 use Rattle.text.proofs.Placed.{placed-next}
-use Rattle.best_lines.proofs.Parts.{no-line}
+use Rattle.best_lines.proofs.NoLine.{no-line}
 
 -- after i of the sixteen: where the next one goes, and what the buffer holds
 pub record Turn (f : ℕ → List ℕ) (at : ℕ) (l m : List ℕ) (i next : ℕ) : Type 0 where

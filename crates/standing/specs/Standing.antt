@@ -1,16 +1,18 @@
--- Where the best prices were born, for people: the best bid and the best offer of the quotes before a second, and under each the exchanges whose
--- last quote is at that price. The best is that of a lookup (RULE R16.3 to R16.9). 10 is the line feed.
+-- Where the best prices were born, for people (RULE R16.17): the best bid and the best offer of the quotes before a second, and under each the exchanges
+-- whose last quote is at that price. The best is that of a lookup (RULE R16.3 to R16.9), and so is the count of quotes read. 10 is the line feed.
 use Prim.Native.Nat.{ℕ, _+_}
 use mathlib.Core.List.{List, [], _∷_, _++_}
 use lib.Dec.{eqb, ltb}
 use lib.ListN.{length}
 use Rattle.wire.specs.Laid.{row}
 use Rattle.wire.specs.Tests.{pick}
-use Rattle.text.specs.Text.{letters}
+use Rattle.text.specs.Text.{letters, decimalOf}
 use Rattle.spelling.specs.Times.{timeText}
 use Rattle.phrases.specs.Phrases.{refusalText}
 use Rattle.quotes.specs.Quotes.{postedIn}
-use Rattle.best.specs.Lasts.{earlier, lastOf}
+use Rattle.earlier.specs.Earlier.{earlier}
+use Rattle.best.specs.Lasts.{lastOf}
+use Rattle.best.specs.Examined.{examinedIn}
 use Rattle.best.specs.Best.{saidBy}
 use Rattle.best.specs.Found.{bestIn, foundOf}
 use Rattle.best_lines.specs.BestLines.{headLine, sayerLine}
@@ -41,9 +43,13 @@ sizesShown h p (l ∷ ls) = pick (ltb 0 (length (sayerLine h p l))) (saidBy h l 
 unfoldable pub beforeLine : ℕ → List ℕ
 beforeLine t = letters "quotes before " ++ timeText t ++ (10 ∷ [])
 
--- the quotes before second t: the bid first, then the offer
+-- how many quotes were read, and how many there are (RULE R16.22)
+unfoldable pub readLine : ℕ → ℕ → List ℕ
+readLine examined before = decimalOf examined ++ letters " of " ++ decimalOf before ++ (letters " quotes read" ++ (10 ∷ []))
+
+-- the quotes before second t: the bid first, then the offer, then how many were read
 unfoldable pub standingText : ℕ → List Posted → List ℕ
-standingText t qs = beforeLine t ++ halfText Bid qs ++ halfText Offer qs
+standingText t qs = beforeLine t ++ halfText Bid qs ++ halfText Offer qs ++ readLine (examinedIn qs) (length qs)
 
 -- a lookup that is refused says so, with its number
 unfoldable pub lookupLine : ℕ → List ℕ

@@ -7,5 +7,6 @@ pub use Rattle.halves.specs.declared.Half.the-variants.{Bid, Offer}
 pub use Rattle.best.specs.declared.Last.{Last}
 pub use Rattle.best.specs.declared.Last.the-variants.{Silent, Sent}
 pub use Rattle.best.specs.declared.Found.{Found}
+pub use Rattle.best.specs.declared.Looked.{Looked}
 pub use Rattle.spelling.specs.declared.Typed.{Typed}
 pub use Rattle.spelling.specs.declared.Typed.the-variants.{Seconds, NoTime}

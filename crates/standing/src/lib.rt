@@ -1,5 +1,6 @@
 // Where the best prices were born, for people: the best bid and offer of the quotes before a second, and under each the exchanges whose last
-// quote is at that price. Nothing is asked: any bytes as quotes and any word as a time have a text, and the buffer holds the longest.
+// quote is at that price; and how many quotes were read. Nothing is asked: any bytes as quotes and any word as a time have a text, and the buffer
+// holds the longest.
 ghost use mathlib.Core.Path.{_≡_};
 ghost use Prim.Native.Nat.{_+_, _≤_};
 ghost use lib.ListN.{length, take};
@@ -7,8 +8,8 @@ ghost use Rattle.wire.specs.Laid.{laid};
 ghost use Rattle.text.specs.Text.{laidAt};
 ghost use Rattle.spelling.specs.Times.{timeIn};
 ghost use Rattle.quotes.specs.Quotes.{postedIn};
-ghost use Rattle.best.specs.Lasts.{earlier};
-ghost use Rattle.standing.specs.Standing.{sayersText, bornText, beforeLine, lookupLine, foundText, bestText};
+ghost use Rattle.earlier.specs.Earlier.{earlier};
+ghost use Rattle.standing.specs.Standing.{sayersText, bornText, beforeLine, readLine, lookupLine, foundText, bestText};
 use facts::Price;
 use facts::Quote;
 use halves::Half;
@@ -56,6 +57,17 @@ fn put_before(out: &mut [u8], time: u32) -> usize
     text::add_byte(out, figures, b'\n')
 }
 
+// The last line: how many quotes were read, of how many.
+fn add_read(out: &mut [u8], at: usize, examined: u32, before: u32) -> usize
+    requires { ⌜ at + 37 ≤ length (now out) ⌝ }
+    ensures { λ r. ⌜ (r ≡ at + length (readLine examined before)) × (now (out .exit) ≡ laidAt at (readLine examined before) (now (out .entry))) × (r ≤ at + 37) ⌝ }
+{
+    let first = text::add_decimal(out, at, examined);
+    let word = text::add_word(out, first, b" of ");
+    let second = text::add_decimal(out, word, before);
+    text::add_word(out, second, b" quotes read\n")
+}
+
 fn put_refused(out: &mut [u8], number: u8) -> usize
     requires { ⌜ 97 ≤ length (now out) ⌝ }
     ensures { λ r. ⌜ (r ≡ length (lookupLine number)) × (now (out .exit) ≡ laid (lookupLine number) (now (out .entry))) × (r ≤ 97) ⌝ }
@@ -64,18 +76,21 @@ fn put_refused(out: &mut [u8], number: u8) -> usize
     phrases::add_refusal(out, word, number)
 }
 
-// What is found before this second: both halves, or the refusal.
+// What is found before this second: both halves and how many quotes were read, or the refusal.
 fn put_found(out: &mut [u8], quotes: &[u8], time: u32) -> usize
-    requires { ⌜ 1673 ≤ length (now out) ⌝ }
-    ensures { λ r. ⌜ (r ≡ length (foundText (now (quotes .entry)) time)) × (now (out .exit) ≡ laid (foundText (now (quotes .entry)) time) (now (out .entry))) × (r ≤ 1673) ⌝ }
+    requires { ⌜ 1710 ≤ length (now out) ⌝ }
+    ensures { λ r. ⌜ (r ≡ length (foundText (now (quotes .entry)) time)) × (now (out .exit) ≡ laid (foundText (now (quotes .entry)) time) (now (out .entry))) × (r ≤ 1710) ⌝ }
 {
-    let found = best::find_best(quotes, time);
+    let before = earlier::quotes_before(quotes, time);
+    let looked = best::find_best(quotes, time, before);
+    let found = looked.found;
     if found.refusal != 0 {
         return put_refused(out, found.refusal);
     }
     let start = put_before(out, time);
     let middle = add_born(out, start, quotes, time, Half::Bid, found.bid);
-    add_born(out, middle, quotes, time, Half::Offer, found.offer)
+    let end = add_born(out, middle, quotes, time, Half::Offer, found.offer);
+    add_read(out, end, looked.examined as u32, before as u32)
 }
 
 // Prints where the best prices before the typed time were born, over the start of the buffer; every byte after the text stays. Answers how many

@@ -1,7 +1,8 @@
-use Rattle.best.proofs.Answers.{found-refused, found}
-use Rattle.best.specs.Found.{foundIn}
+use Rattle.best.proofs.Answers.{looked-refused, looked-wrong, looked}
+use Rattle.earlier.proofs.Number.{counted-within}
 use Rattle.quotes.proofs.Accepted.{all-ok, all-rising}
-use mathlib.Core.Path.{sym, ap, _∙_}
+use Rattle.wire.proofs.Tests.{fails, holds}
+use mathlib.Core.Path.{sym, _∙_}
 use borrow.Author.Needs.{needs}
 use Rattle.best.proofs.find_best.Statement.{statement}
 use Rattle.best.proofs.find_best.Tie as tie
@@ -13,17 +14,26 @@ refuse-requires : tie.Need-refuse-requires
 refuse-requires c κs = search needs
 
 returns : tie.Need-returns
-returns c = c .refuse .ensures ∙ found-refused _ _ _ (c .before .before .check-quotes .ensures) (c .before .if1 .taken)
+returns c = c .refuse .ensures ∙ looked-refused _ _ _ _ (c .before .before .check-quotes .ensures) (c .before .if1 .taken)
 
-count-before-requires : tie.Need-count-before-requires
-count-before-requires c κs = all-rising _ _ (sym (c .before .check-quotes .ensures) ∙ c .if1 .left)
+number-ok-requires : tie.Need-number-ok-requires
+number-ok-requires c κs = all-rising _ _ (sym (c .before .check-quotes .ensures) ∙ c .if1 .left)
 
-answer-requires : tie.Need-answer-requires
-answer-requires c κs = (c .count-before .ensures .0, all-ok _ _ (sym (c .before .before .check-quotes .ensures) ∙ c .before .if1 .left))
+refuse-requires-2 : tie.Need-refuse-requires-2
+refuse-requires-2 c κs = search needs
 
 returns-2 : tie.Need-returns-2
-returns-2 c = let n = c .before in
-    c .answer .ensures ∙ ap foundIn (n .count-before .ensures .1) ∙ found _ _ (sym (n .before .before .check-quotes .ensures) ∙ n .before .if1 .left)
+returns-2 c = let n = c .before .before in
+    c .refuse2 .ensures ∙ looked-wrong _ _ _ (sym (n .before .before .check-quotes .ensures) ∙ n .before .if1 .left) (sym (n .number-ok .ensures) ∙ fails _ (c .before .if2 .taken))
+
+answer-requires : tie.Need-answer-requires
+answer-requires c κs = let n = c .before in
+    let h = sym (n .before .before .check-quotes .ensures) ∙ n .before .if1 .left in
+    (counted-within _ _ (all-rising _ _ h) _ (sym (n .number-ok .ensures) ∙ holds _ (c .if2 .left)), all-ok _ _ h)
+
+returns-3 : tie.Need-returns-3
+returns-3 c = let n = c .before .before in
+    c .answer .ensures ∙ looked _ _ _ (sym (n .before .before .check-quotes .ensures) ∙ n .before .if1 .left) (sym (n .number-ok .ensures) ∙ holds _ (c .before .if2 .left))
 
 pub find-best-spec : {M : Type 1} → statement M
 find-best-spec =
@@ -32,6 +42,8 @@ find-best-spec =
     check-quotes-requires
     refuse-requires
     returns
-    count-before-requires
+    number-ok-requires
+    refuse-requires-2
+    returns-2
     answer-requires
-    returns-2)
+    returns-3)

@@ -1,5 +1,6 @@
 use Rattle.best.proofs.Sought.{met-last, passed, nobody-met}
-use Rattle.best.specs.Lasts.{earlier, lastOf}
+use Rattle.earlier.specs.Earlier.{earlier}
+use Rattle.best.specs.Lasts.{lastOf}
 use Rattle.quotes.specs.Quotes.{postedFrom, postedIn}
 use lib.ListN.{length}
 use native.Mathlib.Omega.{arith}

@@ -1,7 +1,6 @@
 use native.Mathlib.Omega.{arith}
 use Rattle.text.proofs.Placed.{placed-next}
 use Rattle.best_lines.specs.BestLines.{quoteLine}
-use Rattle.best_lines.proofs.Parts.{five-parts}
 use borrow.Author.Needs.{needs}
 use Rattle.best_lines.proofs.add_quote.Statement.{statement}
 use Rattle.best_lines.proofs.add_quote.Tie as tie
@@ -46,7 +45,7 @@ returns c =
     let e3 = placed-next _ _ _ _ _ _ _ _ (omega arith) (e2 .0) (e2 .1) (c3 .add-word2 .ensures .0) (c3 .add-word2 .ensures .1) in
     let e4 = placed-next _ _ _ _ _ _ _ _ (omega arith) (e3 .0) (e3 .1) (c4 .add-time .ensures .0) (c4 .add-time .ensures .1) in
     let e5 = placed-next _ _ _ _ _ _ _ _ (omega arith) (e4 .0) (e4 .1) (v .0) (v .1) in
-    rw (← five-parts _ _ _ _ _) (e5 .0, e5 .1, omega arith)
+    (e5 .0, e5 .1, omega arith)
 
 pub add-quote-spec : {M : Type 1} → statement M
 add-quote-spec =

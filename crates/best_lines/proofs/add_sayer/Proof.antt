@@ -2,7 +2,7 @@ use mathlib.Core.Path.{_≡_, sym, _∙_}
 use native.Mathlib.Omega.{arith}
 use Rattle.best_lines.specs.Words.{Silent, Sent}
 use Rattle.best_lines.specs.BestLines.{sayerLine}
-use Rattle.best_lines.proofs.Parts.{no-line}
+use Rattle.best_lines.proofs.NoLine.{no-line}
 use borrow.Author.Needs.{needs}
 use Rattle.best_lines.proofs.add_sayer.Statement.{statement}
 use Rattle.best_lines.proofs.add_sayer.Tie as tie

@@ -1,7 +1,6 @@
 use native.Mathlib.Omega.{arith}
 use Rattle.text.proofs.Placed.{placed-next}
 use Rattle.best_lines.specs.BestLines.{sizeText}
-use Rattle.best_lines.proofs.Parts.{three-parts}
 use borrow.Author.Needs.{needs}
 use Rattle.best_lines.proofs.add_size.Statement.{statement}
 use Rattle.best_lines.proofs.add_size.Tie as tie
@@ -29,7 +28,7 @@ returns c =
     let c1 = c2 .before .before .before .before in
     let e2 = placed-next _ _ _ _ _ _ _ _ (omega arith) (c1 .add-word .ensures .0) (c1 .add-word .ensures .1) (c2 .add-decimal .ensures .0) (c2 .add-decimal .ensures .1) in
     let e3 = placed-next _ _ _ _ _ _ _ _ (omega arith) (e2 .0) (e2 .1) (c3 .add-byte .ensures .0) (c3 .add-byte .ensures .1) in
-    rw (← three-parts _ _ _) (e3 .0, e3 .1, omega arith)
+    (e3 .0, e3 .1, omega arith)
 
 pub add-size-spec : {M : Type 1} → statement M
 add-size-spec =

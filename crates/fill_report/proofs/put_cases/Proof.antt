@@ -8,10 +8,10 @@ use Rattle.fill_report.proofs.put_cases.Statement.{statement}
 use Rattle.fill_report.proofs.put_cases.Tie as tie
 
 abbrev Inv-loop : tie.InvT-loop
-Inv-loop quotes sheet out₀ n i₀ at₀ filled₀ out i at filled = Turn quotes sheet out₀ out i at filled
+Inv-loop quotes sheet out₀ n i₀ at₀ filled₀ read₀ out i at filled read = Turn quotes sheet out₀ out i at filled read
 
 abbrev μ-loop : tie.MeasureT-loop
-μ-loop quotes sheet out₀ n i₀ at₀ filled₀ out i at filled = n - i
+μ-loop quotes sheet out₀ n i₀ at₀ filled₀ read₀ out i at filled read = n - i
 
 loop-holds : tie.Need-loop-holds Inv-loop μ-loop
 loop-holds c = first _ _ _
@@ -52,6 +52,9 @@ add-at c = omega arith
 add-filled : tie.Need-add-filled Inv-loop μ-loop
 add-filled c = omega arith
 
+add-read : tie.Need-add-read Inv-loop μ-loop
+add-read c = omega arith
+
 add-i : tie.Need-add-i Inv-loop μ-loop
 add-i c = omega arith
 
@@ -60,9 +63,9 @@ loop-less c = omega arith
 
 loop-again : tie.Need-loop-again Inv-loop μ-loop
 loop-again c =
-    let e = c .before .before .before .before in
+    let e = c .before .before .before .before .before in
     let l = e .before .before .before .before in
-    next _ _ _ _ _ _ _ _ _ _ (l .loop .inv) (e .before .before .before .loop-test .taken) (e .put-case .ensures .0) (e .put-case .ensures .1) (c .before .before .before .out .given .1)
+    next _ _ _ _ _ _ _ _ _ _ _ _ (l .loop .inv) (e .before .before .before .loop-test .taken) (e .put-case .ensures .0) (e .put-case .ensures .1 .0) (e .put-case .ensures .1 .1) (c .before .before .before .before .out .given .1)
 
 same-length : tie.Need-same-length Inv-loop μ-loop
 same-length c = omega arith
@@ -72,7 +75,7 @@ returns c =
     let l = c .before in
     let done : l .loop .i ≡ length (now (l .before .before .before .before .args .sheet)) / 88 = omega arith in
     let v = l .loop .inv in
-    rw (← done) ((v .ran .0, v .counted, v .ran .1), (v .most, v .few))
+    rw (← done) ((v .ran .0, v .counted, v .ran .1), (v .summed, (v .most, v .few, v .least)))
 
 pub put-cases-spec : {M : Type 1} → statement M
 put-cases-spec =
@@ -93,6 +96,7 @@ put-cases-spec =
     put-case-requires
     add-at
     add-filled
+    add-read
     add-i
     loop-less
     loop-again

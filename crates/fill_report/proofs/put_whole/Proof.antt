@@ -25,6 +25,9 @@ sub-put-counts-2 c = search needs
 cast-put-counts-2 : tie.Need-cast-put-counts-2
 cast-put-counts-2 c = search needs
 
+cast-put-counts-3 : tie.Need-cast-put-counts-3
+cast-put-counts-3 c = search needs
+
 put-counts-requires : tie.Need-put-counts-requires
 put-counts-requires c κs = search needs
 
@@ -37,9 +40,9 @@ same-length c = search needs
 returns : tie.Need-returns
 returns c =
     let e = c .before .before in
-    let p = e .before .before .before .before .before .before in
+    let p = e .before .before .before .before .before .before .before in
     let w = e .put-counts .ensures in
-    let t = whole-text _ _ _ _ _ _ _ _ _ (p .put-cases .ensures .0) (w .0) (w .1) in
+    let t = whole-text _ _ _ _ _ _ _ _ _ _ (p .put-cases .ensures .0) (p .put-cases .ensures .1 .0) (w .0) (w .1) in
     (t .0, t .1, omega arith)
 
 pub put-whole-spec : {M : Type 1} → statement M
@@ -53,6 +56,7 @@ put-whole-spec =
     cast-put-counts
     sub-put-counts-2
     cast-put-counts-2
+    cast-put-counts-3
     put-counts-requires
     add-result
     same-length

@@ -18,20 +18,20 @@ returns c = case-fails _ _ _ (c .before .check-case .ensures) (c .if1 .taken)
 facts-of-requires : tie.Need-facts-of-requires
 facts-of-requires c κs = passed-whole _ (sym (c .before .before .check-case .ensures) ∙ c .before .if1 .left)
 
-find-best-requires : tie.Need-find-best-requires
-find-best-requires c κs = search needs
+count-and-find-requires : tie.Need-count-and-find-requires
+count-and-find-requires c κs = search needs
 
 same-length-2 : tie.Need-same-length-2
 same-length-2 c = search needs
 
 returns-2 : tie.Need-returns-2
-returns-2 c = let b = c .before .before in
+returns-2 c = let b = c .before .before .before in
     let f = b .before in
     let t = f .before .before in
-    quotes-fail _ _ _ (t .before .check-case .ensures) (t .if1 .left) _ (f .facts-of .ensures) _ (b .find-best .ensures) (c .if2 .taken)
+    quotes-fail _ _ _ (t .before .check-case .ensures) (t .if1 .left) _ (f .facts-of .ensures) _ (b .count-and-find .ensures) (c .if2 .taken)
 
 put-quotes-requires : tie.Need-put-quotes-requires
-put-quotes-requires c κs = let t = c .before .before .before .before .before .before in
+put-quotes-requires c κs = let t = c .before .before .before .before .before .before .before in
     let whole = passed-whole _ (sym (t .before .check-case .ensures) ∙ t .if1 .left) in
     omega arith
 
@@ -41,10 +41,10 @@ same-length-3 c = search needs
 returns-3 : tie.Need-returns-3
 returns-3 c = let p = c .before .before in
     let e = p .before .before in
-    let b = e .before .before in
+    let b = e .before .before .before in
     let f = b .before in
     let t = f .before .before in
-    let ended = fills _ _ _ (t .before .check-case .ensures) (t .if1 .left) _ (f .facts-of .ensures) _ (b .find-best .ensures) (e .if2 .left) in
+    let ended = fills _ _ _ (t .before .check-case .ensures) (t .if1 .left) _ (f .facts-of .ensures) _ (b .count-and-find .ensures) (e .if2 .left) in
     (ended .0, p .put-quotes .ensures ∙ ended .1)
 
 pub fill-case-spec : {M : Type 1} → statement M
@@ -55,7 +55,7 @@ fill-case-spec =
     same-length
     returns
     facts-of-requires
-    find-best-requires
+    count-and-find-requires
     same-length-2
     returns-2
     put-quotes-requires

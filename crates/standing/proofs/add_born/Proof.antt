@@ -2,7 +2,7 @@ use native.Mathlib.Omega.{arith}
 use Rattle.text.proofs.Placed.{placed-next}
 use denote.Ref.{now}
 use Rattle.quotes.specs.Quotes.{postedIn}
-use Rattle.best.specs.Lasts.{earlier}
+use Rattle.earlier.specs.Earlier.{earlier}
 use Rattle.standing.specs.Standing.{sayersText, bornText}
 use borrow.Author.Needs.{needs}
 use Rattle.standing.proofs.add_born.Statement.{statement}

@@ -3,7 +3,7 @@ use mathlib.Core.Path.{_≡_}
 use native.Mathlib.Omega.{arith}
 use borrow.Author.Needs.{needs}
 use Rattle.quotes.specs.Quotes.{postedIn}
-use Rattle.best.specs.Lasts.{earlier}
+use Rattle.earlier.specs.Earlier.{earlier}
 use Rattle.standing.specs.Standing.{sayerOf}
 use Rattle.standing.proofs.Turns.{Turn, first, next-turn}
 use Rattle.standing.proofs.add_sayers.Statement.{statement}

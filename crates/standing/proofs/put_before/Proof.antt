@@ -1,6 +1,5 @@
 use native.Mathlib.Omega.{arith}
 use Rattle.text.proofs.Placed.{ran-first, ran-next}
-use Rattle.best_lines.proofs.Parts.{three-parts}
 use Rattle.standing.specs.Standing.{beforeLine}
 use borrow.Author.Needs.{needs}
 use Rattle.standing.proofs.put_before.Statement.{statement}
@@ -30,7 +29,7 @@ returns c =
     let r1 = ran-first _ _ _ _ (c1 .add-word .ensures .0) (c1 .add-word .ensures .1) in
     let r2 = ran-next _ _ _ _ _ _ _ r1 (c2 .add-time .ensures .0) (c2 .add-time .ensures .1) in
     let r3 = ran-next _ _ _ _ _ _ _ r2 (c3 .add-byte .ensures .0) (c3 .add-byte .ensures .1) in
-    rw (← three-parts _ _ _) (r3 .0, r3 .1, omega arith)
+    (r3 .0, r3 .1, omega arith)
 
 pub put-before-spec : {M : Type 1} → statement M
 put-before-spec =

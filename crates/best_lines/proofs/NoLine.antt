@@ -1,18 +1,12 @@
--- Parts appended one after the other are the line; no line changes nothing.
+-- No line changes nothing.
 use Prim.Native.Nat.{ℕ, _+_, _≤_}
 use mathlib.Core.Path.{_≡_, refl}
-use mathlib.Core.List.{List, [], _++_, append-assoc, append-nil}
+use mathlib.Core.List.{List, [], append-nil}
 use native.Mathlib.Omega.{arith}
 use lib.ListN.{length, take-append-drop}
 use lib.Seq.{length-take-le}
 use Rattle.wire.specs.Laid.{laid}
 use Rattle.text.specs.Text.{laidAt}
-
-pub three-parts : (f g h : List ℕ) → (f ++ g) ++ h ≡ f ++ g ++ h
-three-parts f g h = simp append-assoc
-
-pub five-parts : (f g h i j : List ℕ) → (((f ++ g) ++ h) ++ i) ++ j ≡ f ++ g ++ h ++ i ++ j
-five-parts f g h i j = simp append-assoc
 
 -- nothing written from a place on
 pub no-line : (at m : ℕ) (w l : List ℕ) → w ≡ [] → at ≤ length l → (at ≡ at + length w) × (l ≡ laidAt at w l) × (at ≤ at + m)

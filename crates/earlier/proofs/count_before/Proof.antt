@@ -1,8 +1,8 @@
-use Rattle.best.proofs.Earlier.{Between, start, raised, lowered, met}
+use Rattle.earlier.proofs.Between.{Between, start, raised, lowered, met-count}
 use native.Mathlib.Omega.{arith}
 use Prim.Native.Nat.{_+_, _-_, _/_}
-use Rattle.best.proofs.count_before.Statement.{statement}
-use Rattle.best.proofs.count_before.Tie as tie
+use Rattle.earlier.proofs.count_before.Statement.{statement}
+use Rattle.earlier.proofs.count_before.Tie as tie
 
 abbrev Inv-loop : tie.InvT-loop
 Inv-loop quotes trade-time low₀ high₀ low high = Between quotes trade-time low high
@@ -45,7 +45,7 @@ loop-again-2 c = let l = c .before .before .before .before in
 
 returns : tie.Need-returns Inv-loop μ-loop
 returns c = let l = c .before in
-    met _ _ (l .loop .low) (l .loop .high) (l .loop .inv) (omega arith)
+    met-count _ _ (l .loop .low) (l .loop .high) (l .loop .inv) (omega arith)
 
 pub count-before-spec : {M : Type 1} → statement M
 count-before-spec =
