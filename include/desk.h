@@ -3,7 +3,11 @@
  *
  * They ask nothing of the caller but valid pointers, each to as many bytes as its length says, and buffers that do not
  * overlap. Beside a length of 0 the pointer may be NULL. Any bytes may be given: what is not a case, a sheet or a list of
- * quotes gets the number of the first test that it fails. They keep no state and allocate nothing. */
+ * quotes gets the number of the first test that it fails (from desk_quotes_before, which has no room for it, 0). They keep no
+ * state and allocate nothing.
+ *
+ * A program that was compiled when struct desk_best had five numbers, and desk_best_quotes three arguments, must be compiled
+ * again: the linker does not see the difference. */
 #ifndef DESK_H
 #define DESK_H
 
@@ -177,6 +181,7 @@ extern "C" {
 #define DESK_REFUSAL_QUOTE_FIELD 21u       /* a field of a quote is bad: length, kind, exchange, time, a price or a size */
 #define DESK_REFUSAL_QUOTE_ORDER 22u       /* a quote's time is before that of the quote before it */
 #define DESK_REFUSAL_TRADE_TIME 23u        /* the trade's time is above DESK_LAST_SECOND */
+#define DESK_REFUSAL_QUOTES_BEFORE 28u     /* the number brought is not that of the quotes before the trade */
 
 /* ---- The functions */
 
@@ -188,14 +193,15 @@ struct desk_sheet {
     uint64_t refused; /* cases answered with 12 bytes */
 };
 
-/* What looking up quotes gives back: prices are in mills or DESK_NONE, and none has size 0. If the list or the time is refused,
- * `refusal` is the number (20 to 23), both prices are DESK_NONE and both sizes 0. */
+/* What looking up quotes gives back: prices are in mills or DESK_NONE, and none has size 0. If the list, the time or the number
+ * brought is refused, `refusal` is the number (20 to 23 or 28), both prices are DESK_NONE and the rest is 0. */
 struct desk_best {
     uint64_t refusal;    /* 0 if the quotes are looked up */
     uint64_t bid;        /* the best bid */
     uint64_t offer;      /* the best offer */
     uint64_t bid_size;   /* the sum of sizes at the best bid, at most DESK_MOST_CONTRACTS */
     uint64_t offer_size; /* the same at the best offer */
+    uint64_t examined;   /* the quotes examined, at most those before the trade */
 };
 
 /* Reads a case: 0 if it is accepted, else the number of the first test that fails (1, then 2 to 9). */
@@ -215,12 +221,20 @@ uint64_t desk_print_sheet(const uint8_t *sheet, size_t len, uint8_t (*out)[DESK_
 
 /* Looks up the best bid and offer at a trade: of each exchange the last quote strictly before `trade_time` counts, the later
  * record of one second; the highest bid and the lowest offer among them are given, each with the sum of the sizes at it. An
- * exchange whose last bid is none has no say on the bid, and likewise on the offer. An empty list gives none. */
-struct desk_best desk_best_quotes(const uint8_t *quotes, size_t len, uint32_t trade_time);
+ * exchange whose last bid is none has no say on the bid, and likewise on the offer. An empty list gives none.
+ *
+ * `before` is the number of quotes strictly before the trade, as desk_quotes_before tells it; another number is refused (28, after
+ * 20 to 23). Examined are the quotes from the last of them backwards, down to and including the one by which all DESK_EXCHANGES
+ * exchanges are known, or to the first if that never comes; any quote makes its exchange known, one of none too. The tests 20 to
+ * 23 look at the whole list in every call; that is not counted. */
+struct desk_best desk_best_quotes(const uint8_t *quotes, size_t len, uint32_t trade_time, uint64_t before);
+
+/* Tells the number of quotes strictly before `trade_time`: 0 also where the list or the time is refused (20 to 23). */
+uint64_t desk_quotes_before(const uint8_t *quotes, size_t len, uint32_t trade_time);
 
 /* Fills the best bid and offer at a case's execution into the case: 0, and DESK_CASE_AT_BID to DESK_CASE_AT_OFFER_SIZE (bytes 20
  * to 35 of `record`) written, every other byte kept; or the number of the first test that fails (1, 2 to 9, then 20 to 22), and
- * `record` as it was. */
+ * `record` as it was. It finds the number of quotes before the trade itself, and does not tell how many it examined. */
 uint32_t desk_fill_case(const uint8_t *quotes, size_t len, uint8_t *record, size_t record_len);
 
 #ifdef __cplusplus

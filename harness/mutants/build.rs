@@ -66,14 +66,15 @@ fn copy_page(page: &Path, folder: &Path) {
     }
 }
 
-/// What looks up quotes and fills cases; the rest is the independent desk's own.
+/// What looks up quotes, tells what was found and fills cases; the rest is the independent desk's own.
 fn copy_quotes(page: &Path, folder: &Path) {
     fs::create_dir_all(folder).expect("a folder");
-    for file in ["quotes.rs", "filling.rs"] {
+    for file in ["quotes.rs", "told.rs", "filling.rs"] {
         fs::copy(page.join(file), folder.join(file)).expect("a copy");
     }
-    let root = "mod filling;\nmod quotes;\npub use filling::fill_case;\n\
-                pub use quotes::best_quotes;\nuse harness::page::{case, reading, refusal, units};\n";
+    let root = "mod filling;\nmod quotes;\nmod told;\npub use filling::fill_case;\n\
+                pub use told::{best_told, number_told};\n\
+                use harness::page::{case, reading, refusal, units};\n";
     fs::write(folder.join("mod.rs"), root).expect("the module's own file");
 }
 

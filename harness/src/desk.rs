@@ -1,4 +1,4 @@
-//! The proved desk: the six C functions of `target/staticlib/libdesk.a` (`include/desk.h`) behind
+//! The proved desk: the seven C functions of `target/staticlib/libdesk.a` (`include/desk.h`) behind
 //! a safe interface. All `unsafe` of the harness is here.
 
 use std::ptr;
@@ -35,8 +35,8 @@ pub struct DeskSheet {
     pub refused: u64,
 }
 
-/// The best bid and offer, [`NONE`] of size 0 where there is none; or the number of a refusal, and
-/// none of both.
+/// The best bid and offer, [`NONE`] of size 0 where there is none, and the quotes examined; or the
+/// number of a refusal, none of both and a count of 0.
 #[repr(C)]
 #[derive(Clone, Copy, Debug, PartialEq, Eq)]
 pub struct DeskBest {
@@ -45,6 +45,7 @@ pub struct DeskBest {
     pub offer: u64,
     pub bid_size: u64,
     pub offer_size: u64,
+    pub examined: u64,
 }
 
 unsafe extern "C" {
@@ -52,7 +53,8 @@ unsafe extern "C" {
     fn desk_rule_case(case: *const u8, len: usize, out: *mut u8, out_len: usize) -> u32;
     fn desk_rule_sheet(sheet: *const u8, len: usize, out: *mut u8, out_len: usize) -> DeskSheet;
     fn desk_print_sheet(sheet: *const u8, len: usize, out: *mut [u8; TEXT_BYTES]) -> u64;
-    fn desk_best_quotes(quotes: *const u8, len: usize, trade_time: u32) -> DeskBest;
+    fn desk_best_quotes(quotes: *const u8, len: usize, trade_time: u32, before: u64) -> DeskBest;
+    fn desk_quotes_before(quotes: *const u8, len: usize, trade_time: u32) -> u64;
     fn desk_fill_case(quotes: *const u8, len: usize, record: *mut u8, record_len: usize) -> u32;
 }
 
@@ -83,10 +85,17 @@ pub fn print_sheet(sheet: &[u8], out: &mut [u8; TEXT_BYTES]) -> u64 {
     unsafe { desk_print_sheet(sheet.as_ptr(), sheet.len(), out) }
 }
 
-/// The best bid and offer among each exchange's last quote before the trade.
-pub fn best_quotes(quotes: &[u8], trade_time: u32) -> DeskBest {
+/// The best bid and offer among each exchange's last quote before the trade; `before` is the number
+/// that [`quotes_before`] tells, and another is refused (28).
+pub fn best_quotes(quotes: &[u8], trade_time: u32, before: u64) -> DeskBest {
     // SAFETY: the pointer and the length are those of one live slice, which is only read.
-    unsafe { desk_best_quotes(quotes.as_ptr(), quotes.len(), trade_time) }
+    unsafe { desk_best_quotes(quotes.as_ptr(), quotes.len(), trade_time, before) }
+}
+
+/// The number of quotes strictly before the trade; 0 where the quotes or the time are refused.
+pub fn quotes_before(quotes: &[u8], trade_time: u32) -> u64 {
+    // SAFETY: the pointer and the length are those of one live slice, which is only read.
+    unsafe { desk_quotes_before(quotes.as_ptr(), quotes.len(), trade_time) }
 }
 
 /// Fills the best bid and offer at the case's execution into the case; the number of its or the
@@ -118,7 +127,7 @@ pub mod null {
         }
     }
 
-    // SAFETY, of all six: a pointer and a length are those of one live slice, or NULL and 0, which
+    // SAFETY, of all seven: a pointer and a length are those of one live slice, or NULL and 0, which
     // `include/desk.h` permits; what is written to is lent exclusively.
 
     pub fn check_case(case: &[u8]) -> u32 {
@@ -137,8 +146,12 @@ pub mod null {
         unsafe { desk_print_sheet(pointer(sheet), sheet.len(), out) }
     }
 
-    pub fn best_quotes(quotes: &[u8], trade_time: u32) -> DeskBest {
-        unsafe { desk_best_quotes(pointer(quotes), quotes.len(), trade_time) }
+    pub fn best_quotes(quotes: &[u8], trade_time: u32, before: u64) -> DeskBest {
+        unsafe { desk_best_quotes(pointer(quotes), quotes.len(), trade_time, before) }
+    }
+
+    pub fn quotes_before(quotes: &[u8], trade_time: u32) -> u64 {
+        unsafe { desk_quotes_before(pointer(quotes), quotes.len(), trade_time) }
     }
 
     pub fn fill_case(quotes: &[u8], case: &mut [u8]) -> u32 {

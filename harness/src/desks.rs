@@ -16,7 +16,8 @@ pub trait Desk {
 /// calls it is compared in and no others.
 pub trait QuoteDesk {
     fn name(&self) -> &str;
-    fn best_quotes(&self, quotes: &[u8], trade_time: u32) -> DeskBest;
+    fn best_quotes(&self, quotes: &[u8], trade_time: u32, before: u64) -> DeskBest;
+    fn quotes_before(&self, quotes: &[u8], trade_time: u32) -> u64;
     fn fill_case(&self, quotes: &[u8], case: &mut [u8]) -> u32;
 }
 
@@ -50,8 +51,12 @@ impl QuoteDesk for Proved {
         "proved"
     }
 
-    fn best_quotes(&self, quotes: &[u8], trade_time: u32) -> DeskBest {
-        desk::best_quotes(quotes, trade_time)
+    fn best_quotes(&self, quotes: &[u8], trade_time: u32, before: u64) -> DeskBest {
+        desk::best_quotes(quotes, trade_time, before)
+    }
+
+    fn quotes_before(&self, quotes: &[u8], trade_time: u32) -> u64 {
+        desk::quotes_before(quotes, trade_time)
     }
 
     fn fill_case(&self, quotes: &[u8], case: &mut [u8]) -> u32 {
@@ -89,8 +94,12 @@ impl QuoteDesk for ProvedOnNull {
         "proved, on NULL"
     }
 
-    fn best_quotes(&self, quotes: &[u8], trade_time: u32) -> DeskBest {
-        desk::null::best_quotes(quotes, trade_time)
+    fn best_quotes(&self, quotes: &[u8], trade_time: u32, before: u64) -> DeskBest {
+        desk::null::best_quotes(quotes, trade_time, before)
+    }
+
+    fn quotes_before(&self, quotes: &[u8], trade_time: u32) -> u64 {
+        desk::null::quotes_before(quotes, trade_time)
     }
 
     fn fill_case(&self, quotes: &[u8], case: &mut [u8]) -> u32 {
@@ -154,19 +163,26 @@ macro_rules! quote_desk_of_page {
                 $name
             }
 
-            fn best_quotes(&self, quotes: &[u8], trade_time: u32) -> $crate::desk::DeskBest {
-                let (refusal, bid, offer) = match $page::best_quotes(quotes, trade_time) {
-                    Ok(best) => (0, best.bid, best.offer),
-                    Err(refusal) => (u64::from(refusal.number()), None, None),
-                };
-                let none = u64::from($crate::desk::NONE);
+            fn best_quotes(
+                &self,
+                quotes: &[u8],
+                trade_time: u32,
+                before: u64,
+            ) -> $crate::desk::DeskBest {
+                let [refusal, bid, offer, bid_size, offer_size, examined] =
+                    $page::best_told(quotes, trade_time, before);
                 $crate::desk::DeskBest {
                     refusal,
-                    bid: bid.map_or(none, |quote| u64::from(quote.price.0)),
-                    offer: offer.map_or(none, |quote| u64::from(quote.price.0)),
-                    bid_size: bid.map_or(0, |quote| u64::from(quote.size.0)),
-                    offer_size: offer.map_or(0, |quote| u64::from(quote.size.0)),
+                    bid,
+                    offer,
+                    bid_size,
+                    offer_size,
+                    examined,
                 }
+            }
+
+            fn quotes_before(&self, quotes: &[u8], trade_time: u32) -> u64 {
+                $page::number_told(quotes, trade_time)
             }
 
             fn fill_case(&self, quotes: &[u8], case: &mut [u8]) -> u32 {

@@ -1,13 +1,15 @@
 //! The harness: an independent desk beside the proved one, and what is needed to compare the two.
 //!
-//! - [`page`]: the independent desk, written from document 01 and request L1 of document 02 alone;
+//! - [`page`]: the independent desk, written from document 01, requests L1 and L8 of document 02 and
+//!   what was decided where they are silent;
 //! - [`desk`]: the proved desk, the static library behind a safe interface;
 //! - [`desks`]: what the two have in common;
 //! - [`fields`], [`accepted`], [`faults`], [`mixture`]: case records, good and bad;
 //! - [`lists`], [`quote_faults`]: lists of quotes, good and bad;
 //! - [`compare`], [`stream`]: the same call on two desks, once and a million times;
 //! - [`quote_compare`], [`quote_stream`]: the same of quotes;
-//! - [`coverage`], [`quote_coverage`]: what a run has reached;
+//! - [`coverage`], [`quote_coverage`] with `walk_coverage`: what a run has reached;
+//! - [`fast_quotes`]: the lookup once more, for the benchmark;
 //! - [`settings`], [`random`]: seeds and numbers.
 
 #![deny(unsafe_code)]
@@ -18,6 +20,7 @@ pub mod coverage;
 #[allow(unsafe_code)]
 pub mod desk;
 pub mod desks;
+pub mod fast_quotes;
 pub mod faults;
 pub mod fields;
 pub mod lists;
@@ -30,3 +33,4 @@ pub mod quote_stream;
 pub mod random;
 pub mod settings;
 pub mod stream;
+mod walk_coverage;

@@ -28,6 +28,9 @@ const SIZES: [&[u32]; 5] = [
 /// What the quotes of a list have in common.
 struct Market {
     exchanges: Vec<u32>,
+    /// One quote in so many is of any of them. The others come in turns, so that all are soon known.
+    any: u32,
+    waiting: Vec<u32>,
     prices: Vec<u32>,
     sizes: &'static [u32],
     /// One bid or offer in so many is none.
@@ -38,7 +41,7 @@ impl Market {
     fn new(random: &mut Random) -> Market {
         let mut exchanges: Vec<u32> = (1..=EXCHANGES as u32).collect();
         random.shuffle(&mut exchanges);
-        exchanges.truncate(random.pick(&[1, 2, 3, 5, EXCHANGES, EXCHANGES]));
+        exchanges.truncate(random.pick(&[1, 2, 3, 5, EXCHANGES - 1, EXCHANGES, EXCHANGES]));
         let any = random.within(0, HIGHEST_PRICE);
         let price = random.pick(&[0, 1, 1, 2_000, HIGHEST_PRICE, any]);
         let prices = vec![
@@ -50,17 +53,19 @@ impl Market {
         ];
         Market {
             exchanges,
+            any: random.pick(&[1, 1, 6, 1_000]),
+            waiting: Vec::new(),
             prices,
             sizes: random.pick(&SIZES),
             none: random.pick(&[1, 2, 2, 3, 3, 8, 8, 1_000]),
         }
     }
 
-    fn quote(&self, random: &mut Random, time: u32) -> QuoteFields {
+    fn quote(&mut self, random: &mut Random, time: u32) -> QuoteFields {
         let (bid, bid_size) = self.price_and_size(random);
         let (offer, offer_size) = self.price_and_size(random);
         QuoteFields {
-            exchange: random.pick(&self.exchanges),
+            exchange: self.exchange(random),
             time,
             bid,
             offer,
@@ -68,6 +73,17 @@ impl Market {
             offer_size,
             ..QuoteFields::example()
         }
+    }
+
+    fn exchange(&mut self, random: &mut Random) -> u32 {
+        if random.once_in(self.any) {
+            return random.pick(&self.exchanges);
+        }
+        if self.waiting.is_empty() {
+            self.waiting.clone_from(&self.exchanges);
+            random.shuffle(&mut self.waiting);
+        }
+        self.waiting.pop().expect("an exchange that waits")
     }
 
     /// "A quote of none has size 0; a quote above zero has size at least 1; a quote of zero may have
@@ -90,6 +106,7 @@ pub fn good_list(random: &mut Random) -> Vec<QuoteFields> {
         0 => random.pick(&[MOST_QUOTES - 1, MOST_QUOTES, MOST_QUOTES]),
         1..=5 => random.within(30, 300) as usize,
         6..=50 => random.within(0, 2) as usize,
+        51..=200 => random.within(15, 40) as usize,
         _ => random.within(2, 24) as usize,
     };
     list_of(random, count)
@@ -97,7 +114,7 @@ pub fn good_list(random: &mut Random) -> Vec<QuoteFields> {
 
 /// A good list of so many quotes.
 pub fn list_of(random: &mut Random, count: usize) -> Vec<QuoteFields> {
-    let market = Market::new(random);
+    let mut market = Market::new(random);
     let any = random.within(0, LAST_SECOND);
     let mut time = random.pick(&[0, 1, 34_190, LAST_SECOND - 4, any]);
     (0..count)

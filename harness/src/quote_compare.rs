@@ -34,16 +34,32 @@ impl<'a> QuoteComparison<'a> {
         QuoteComparison { left, right }
     }
 
-    /// Looking up the best bid and offer.
-    pub fn best_quotes(&self, quotes: &[u8], trade_time: u32) -> Result<DeskBest, Difference> {
-        let left = self.left.best_quotes(quotes, trade_time);
-        let right = self.right.best_quotes(quotes, trade_time);
+    /// Looking up the best bid and offer, with that number of quotes before the trade.
+    pub fn best_quotes(
+        &self,
+        quotes: &[u8],
+        trade_time: u32,
+        before: u64,
+    ) -> Result<DeskBest, Difference> {
+        let left = self.left.best_quotes(quotes, trade_time, before);
+        let right = self.right.best_quotes(quotes, trade_time, before);
         same("answers", left, right)
-            .and_then(possible)
+            .and_then(|best| possible(best, before))
             .map_err(|what| {
-                let input = format!("trade time {trade_time}\n{}", shown_list(quotes));
+                let list = shown_list(quotes);
+                let input = format!("trade time {trade_time}, {before} before it\n{list}");
                 self.report("best_quotes", &what, &input)
             })
+    }
+
+    /// Telling the number of quotes before a trade.
+    pub fn quotes_before(&self, quotes: &[u8], trade_time: u32) -> Result<u64, Difference> {
+        let left = self.left.quotes_before(quotes, trade_time);
+        let right = self.right.quotes_before(quotes, trade_time);
+        same("numbers", left, right).map_err(|what| {
+            let input = format!("trade time {trade_time}\n{}", shown_list(quotes));
+            self.report("quotes_before", &what, &input)
+        })
     }
 
     /// Filling a case.
@@ -72,15 +88,20 @@ impl<'a> QuoteComparison<'a> {
     }
 }
 
-/// Prices are prices or none; none has size 0, and a price above zero a size; a refusal gives none.
-fn possible(best: DeskBest) -> Result<DeskBest, String> {
+/// Prices are prices or none; none has size 0, and a price above zero a size; all quotes before the
+/// trade are examined, or enough of them for sixteen exchanges; a refusal gives none and counts none.
+fn possible(best: DeskBest, before: u64) -> Result<DeskBest, String> {
     let sides = [(best.bid, best.bid_size), (best.offer, best.offer_size)];
     let possible = sides.iter().all(|&(price, size)| {
         let none = price == u64::from(NONE) && size == 0;
         let quoted = price <= 9_999_999 && size <= 1_000_000 && (size > 0 || price == 0);
         none || (quoted && best.refusal == 0)
     });
-    if possible {
+    let counted = match best.refusal {
+        0 => best.examined == before || (16..before).contains(&best.examined),
+        _ => best.examined == 0,
+    };
+    if possible && counted {
         Ok(best)
     } else {
         Err(format!("no desk may answer {best:?}"))

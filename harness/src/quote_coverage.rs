@@ -11,7 +11,9 @@ use std::fmt;
 use crate::desk::DeskBest;
 use crate::fields::{QuoteFields, NONE};
 use crate::page::{self, Refusal};
+use crate::quote_faults::{Counted, NUMBER_FAULTS};
 use crate::quote_stream::Agreed;
+use crate::walk_coverage::{Walk, WALKS};
 
 /// Something that a call can reach.
 #[derive(Clone, Copy, Debug, PartialEq, Eq, PartialOrd, Ord)]
@@ -28,14 +30,41 @@ enum Reached {
     TradeTime(u32),
     /// The one exchange with the best bid.
     Exchange(u32),
+    /// A wrong number of quotes before the trade, refused 28.
+    Brought(&'static str),
+    /// The number of quotes before the trade, as it is told.
+    Told(&'static str),
+    /// The refusal for which none was told, though there were quotes before the trade.
+    NotTold(u16),
+    /// The quotes examined.
+    Examined(&'static str),
+    /// The exchange by which all sixteen were known.
+    Sixteenth(u32),
+    /// The exchange that was never known, the others being so.
+    Missing(u32),
     /// What a side's answer is, or could have been mistaken for.
     Best(&'static str, &'static str),
 }
 
-const PAIRS: [(u32, u32); 6] = [(20, 21), (20, 22), (20, 23), (21, 22), (21, 23), (22, 23)];
+const PAIRS: [(u32, u32); 10] = [
+    (20, 21),
+    (20, 22),
+    (20, 23),
+    (20, 28),
+    (21, 22),
+    (21, 23),
+    (21, 28),
+    (22, 23),
+    (22, 28),
+    (23, 28),
+];
 const FIRSTS: [&str; 2] = ["a bad field", "a time going back"];
 const COUNTS: [usize; 5] = [0, 1, 1_999, 2_000, 2_001];
 const TRADE_TIMES: [u32; 5] = [0, 1, 86_399, 86_400, NONE];
+
+const NONE_TOLD: &str = "0";
+const SOME_TOLD: &str = "some";
+const ALL_TOLD: &str = "all";
 
 const NO_QUOTE: &str = "none: no quote precedes the trade";
 const ALL_NONE: &str = "none: every exchange last sent none";
@@ -78,7 +107,7 @@ impl Reached {
     /// All that a long run should reach.
     fn all() -> Vec<Reached> {
         let mut all = vec![Reached::Number(0)];
-        all.extend((20..=23).map(Reached::Number));
+        all.extend((20..=23).chain([28]).map(Reached::Number));
         all.extend((0..=9).chain(20..=22).map(Reached::Filled));
         all.extend(PAIRS.map(|(first, second)| Reached::Both(first, second)));
         all.extend(FIRSTS.map(Reached::First));
@@ -89,6 +118,16 @@ impl Reached {
             all.extend(WHATS.map(|what| Reached::Best(side, what)));
         }
         all.push(ZERO_BESIDE);
+        all.extend(
+            NUMBER_FAULTS
+                .iter()
+                .map(|fault| Reached::Brought(fault.name)),
+        );
+        all.extend([NONE_TOLD, SOME_TOLD, ALL_TOLD].map(Reached::Told));
+        all.extend((20..=23).map(Reached::NotTold));
+        all.extend(WALKS.map(Reached::Examined));
+        all.extend((1..=16).map(Reached::Sixteenth));
+        all.extend((1..=16).map(Reached::Missing));
         all
     }
 }
@@ -106,6 +145,14 @@ impl fmt::Display for Reached {
             Reached::TradeTime(time) => write!(out, "trade time {time}"),
             Reached::Exchange(exchange) => write!(out, "best bid of exchange {exchange} alone"),
             Reached::Best(side, what) => write!(out, "{side}: {what}"),
+            Reached::Brought(name) => write!(out, "brought and refused 28: {name}"),
+            Reached::Told(what) => write!(out, "before the trade: {what} told"),
+            Reached::NotTold(number) => {
+                write!(out, "before the trade: some not told, for {number}")
+            }
+            Reached::Examined(what) => write!(out, "examined: {what}"),
+            Reached::Sixteenth(exchange) => write!(out, "all known by exchange {exchange}"),
+            Reached::Missing(exchange) => write!(out, "all known but exchange {exchange}"),
         }
     }
 }
@@ -121,27 +168,35 @@ impl QuoteCoverage {
             Agreed::Best {
                 list,
                 trade_time,
+                before,
                 answer,
             } => {
                 self.count(Reached::Number(answer.refusal));
                 self.count(Reached::TradeTime(trade_time));
-                self.count_tests(list, trade_time);
-                if answer.refusal == 0 {
-                    self.count_answer(list, trade_time, &answer);
+                self.count_tests(list, trade_time, before);
+                match answer.refusal {
+                    0 => self.count_answer(list, trade_time, &answer),
+                    28 => self.count_brought(Counted::new(list, trade_time), before),
+                    _ => {}
                 }
             }
+            Agreed::Before {
+                list,
+                trade_time,
+                answer,
+            } => self.count_told(list, trade_time, answer),
         }
     }
 
     /// Which tests fail, each by itself.
-    fn count_tests(&mut self, list: &[u8], trade_time: u32) {
+    fn count_tests(&mut self, list: &[u8], trade_time: u32, before: u64) {
         let (records, rest) = list.as_chunks::<28>();
         if rest.is_empty() {
             self.count(Reached::Quotes(records.len()));
         }
         let bad = records
             .iter()
-            .position(|record| page::best_quotes(record, 0) == Err(Refusal::QuoteField));
+            .position(|record| page::quotes_before(record, 0) == Err(Refusal::QuoteField));
         let back = records.windows(2).position(|pair| {
             QuoteFields::decode(&pair[1]).time < QuoteFields::decode(&pair[0]).time
         });
@@ -149,7 +204,8 @@ impl QuoteCoverage {
             20 => !rest.is_empty() || records.len() > 2_000,
             21 => bad.is_some(),
             22 => back.is_some(),
-            _ => trade_time > 86_399,
+            23 => trade_time > 86_399,
+            _ => before != Counted::new(list, trade_time).before,
         };
         for (first, second) in PAIRS {
             if fails(first) && fails(second) {
@@ -161,9 +217,38 @@ impl QuoteCoverage {
         }
     }
 
+    /// Which wrong numbers this one is.
+    fn count_brought(&mut self, counted: Counted, before: u64) {
+        for fault in NUMBER_FAULTS {
+            if fault.apply(counted) == before {
+                self.count(Reached::Brought(fault.name));
+            }
+        }
+    }
+
+    fn count_told(&mut self, list: &[u8], trade_time: u32, answer: u64) {
+        let counted = Counted::new(list, trade_time);
+        let told = match page::quotes_before(list, trade_time) {
+            Err(_) if counted.before == 0 => return,
+            Err(refusal) => Reached::NotTold(refusal.number()),
+            Ok(_) if answer == 0 => Reached::Told(NONE_TOLD),
+            Ok(_) if answer == counted.all => Reached::Told(ALL_TOLD),
+            Ok(_) => Reached::Told(SOME_TOLD),
+        };
+        self.count(told);
+    }
+
     fn count_answer(&mut self, list: &[u8], trade_time: u32, answer: &DeskBest) {
         let (records, _) = list.as_chunks();
         let quotes: Vec<QuoteFields> = records.iter().map(QuoteFields::decode).collect();
+        let walk = Walk::new(&quotes, trade_time, answer.examined);
+        for what in WALKS {
+            if walk.shows(what) {
+                self.count(Reached::Examined(what));
+            }
+        }
+        self.count_if_any(walk.sixteenth().map(Reached::Sixteenth));
+        self.count_if_any(walk.missing().map(Reached::Missing));
         for side in &SIDES {
             let view = View::new(side, &quotes, trade_time, answer);
             for what in WHATS {
@@ -177,6 +262,12 @@ impl QuoteCoverage {
             if let ("bid", [quote]) = (side.name, &view.at_best()[..]) {
                 self.count(Reached::Exchange(quote.exchange));
             }
+        }
+    }
+
+    fn count_if_any(&mut self, reached: Option<Reached>) {
+        if let Some(reached) = reached {
+            self.count(reached);
         }
     }
 

@@ -1,5 +1,5 @@
 //! Faults of a quote: each makes a good quote's field bad, in every field and on every side that
-//! the test has.
+//! the test has. And faults of the number of quotes before a trade, which the caller brings.
 
 use crate::fields::{QuoteFields, NONE};
 
@@ -20,6 +20,73 @@ impl QuoteFault {
     pub fn apply(&self, quote: &mut QuoteFields) {
         (self.change)(quote);
     }
+}
+
+/// What can be counted in a list at a trade, by the times that stand in the bytes, whether the list is
+/// good or not.
+#[derive(Clone, Copy)]
+pub struct Counted {
+    /// Strictly before the trade: the right number.
+    pub before: u64,
+    /// In the trade's second too.
+    pub up_to: u64,
+    pub all: u64,
+}
+
+impl Counted {
+    pub fn new(list: &[u8], trade_time: u32) -> Counted {
+        let (records, _) = list.as_chunks();
+        let times = records
+            .iter()
+            .map(|record| QuoteFields::decode(record).time);
+        Counted {
+            before: times.clone().filter(|&time| time < trade_time).count() as u64,
+            up_to: times.filter(|&time| time <= trade_time).count() as u64,
+            all: records.len() as u64,
+        }
+    }
+}
+
+/// What a caller brings for the right number; where it is another, it is refused 28 if nothing else
+/// is refused before.
+pub struct NumberFault {
+    pub name: &'static str,
+    change: fn(Counted) -> u64,
+}
+
+impl NumberFault {
+    pub fn apply(&self, counted: Counted) -> u64 {
+        (self.change)(counted)
+    }
+}
+
+macro_rules! number_faults {
+    ($($name:literal: $change:expr,)*) => {
+        /// Every fault of the number.
+        pub const NUMBER_FAULTS: &[NumberFault] = &[
+            $(NumberFault { name: $name, change: $change },)*
+        ];
+    };
+}
+
+number_faults! {
+    "one less": |of| of.before.wrapping_sub(1),
+    "one more": |of| of.before + 1,
+    "0": |_| 0,
+    "1": |_| 1,
+    "16": |_| 16,
+    "those up to the trade's second": |of| of.up_to,
+    "those from the trade on": |of| of.all - of.before,
+    "all quotes": |of| of.all,
+    "one more than all": |of| of.all + 1,
+    "their bytes": |of| of.before * 28,
+    "2^8 more": |of| of.before + (1 << 8),
+    "2^16 more": |of| of.before + (1 << 16),
+    "2^32 more": |of| of.before + (1 << 32),
+    "2^63 more": |of| of.before + (1 << 63),
+    "2^32": |_| 1 << 32,
+    "2^63": |_| 1 << 63,
+    "2^64 - 1": |_| u64::MAX,
 }
 
 /// A way to one field, so that faults can be listed by field.

@@ -1,6 +1,6 @@
 //! The desk from C: `c/page.c` compiles without a warning against `include/desk.h`, reads the answers
-//! under its names and prints the page's five lines; `c/quotes.c` looks up quotes and fills a case;
-//! `c/fields.c` writes every field of a record. The header's numbers are those of the independent
+//! under its names and prints the page's five lines; `c/quotes.c` counts and looks up quotes and fills a
+//! case; `c/fields.c` writes every field of a record. The header's numbers are those of the independent
 //! desk, and it is also good C++.
 
 use std::fmt::Debug;
@@ -53,9 +53,15 @@ fn compiled(name: &str) -> PathBuf {
 
 #[test]
 fn the_c_program_prints_the_page_sheet() {
-    let program = compiled("page");
+    check_printed("page", LINES);
+}
+
+/// Does the program print that, and end with 2 where it cannot?
+fn check_printed(name: &str, lines: &str) {
+    let program = compiled(name);
     let output = run(&mut Command::new(&program));
-    assert_eq!(String::from_utf8_lossy(&output.stdout), LINES);
+    assert_eq!(String::from_utf8_lossy(&output.stdout), lines);
+    assert_eq!(String::from_utf8_lossy(&output.stderr), "");
     let full = File::options().write(true).open("/dev/full");
     let unwritten = Command::new(&program)
         .stdout(full.expect("/dev/full"))
@@ -65,11 +71,11 @@ fn the_c_program_prints_the_page_sheet() {
     assert_eq!(unwritten.status.code(), Some(2));
 }
 
-/// It says on standard error what was answered otherwise, and then does not end with 0.
+/// It says on standard error what was answered otherwise, and then does not end with 0. Three of four
+/// quotes are before the trade, and then 2,000 by sixteen exchanges in turn.
 #[test]
 fn the_c_program_looks_up_quotes_and_fills_a_case() {
-    let output = run(&mut Command::new(compiled("quotes")));
-    assert_eq!((output.stdout, output.stderr), (vec![], vec![]));
+    check_printed("quotes", "3 before, 3 examined\n2000 before, 16 examined\n");
 }
 
 #[test]
@@ -179,6 +185,7 @@ fn the_header_numbers_outcomes_reasons_and_refusals_as_the_page() {
         Refusal::QuoteField,
         Refusal::QuoteOrder,
         Refusal::TradeTime,
+        Refusal::QuotesBefore,
     ] {
         check_number("DESK_REFUSAL", refusal, u32::from(refusal.number()));
     }

@@ -5,21 +5,32 @@ use harness::desks::{Plain, Proved, ProvedOnNull};
 use harness::fields::{encode_list, Fields, QuoteFields, NONE};
 use harness::lists::{list_of, trade_time, Lists};
 use harness::quote_compare::QuoteComparison;
-use harness::quote_faults::quote_faults;
+use harness::quote_faults::{quote_faults, Counted, NUMBER_FAULTS};
 use harness::random::Random;
 use harness::settings;
 
-/// What a lookup and filling a good case give; the two must be alike.
+/// What a lookup with the right number and filling a good case give; the two must be alike. A wrong
+/// number is refused 28, but where something else is; of what is refused no number is told.
 fn refusal(comparison: &QuoteComparison, list: &[u8]) -> u64 {
-    let best = comparison.best_quotes(list, 34_200);
+    let counted = Counted::new(list, 34_200);
+    let looked_up = |before| {
+        let best = comparison.best_quotes(list, 34_200, before);
+        best.expect("the desks agree").refusal
+    };
+    let refusal = looked_up(counted.before);
     let filled = comparison.fill_case(list, &Fields::example().encode());
-    let refusal = best.expect("the desks agree").refusal;
     assert_eq!(
         refusal,
         u64::from(filled.expect("the desks agree").number),
         "list of {} bytes",
         list.len()
     );
+    let wrong = if refusal == 0 { 28 } else { refusal };
+    assert_eq!(looked_up(counted.before + 1), wrong);
+    assert_eq!(looked_up(counted.before.wrapping_sub(1)), wrong);
+    let told = comparison.quotes_before(list, 34_200);
+    let number = if refusal == 0 { counted.before } else { 0 };
+    assert_eq!(told.expect("the desks agree"), number);
     refusal
 }
 
@@ -63,8 +74,16 @@ fn lists_of_2_000_and_2_001_quotes() {
         }
         for _ in 0..40 {
             let time = trade_time(&mut random, &list);
+            let list = &list[..56_000];
+            let counted = Counted::new(list, time);
+            let wrong = NUMBER_FAULTS.iter().map(|fault| fault.apply(counted));
+            for before in wrong.chain([counted.before]) {
+                comparison
+                    .best_quotes(list, time, before)
+                    .expect("the desks agree");
+            }
             comparison
-                .best_quotes(&list[..56_000], time)
+                .quotes_before(list, time)
                 .expect("the desks agree");
         }
     }
@@ -89,7 +108,7 @@ fn each_fault_is_refused_21_in_every_place() {
                     "{}, quote {at} of {count}",
                     fault.name
                 );
-                let late = comparison.best_quotes(&list, NONE);
+                let late = comparison.best_quotes(&list, NONE, 0);
                 assert_eq!(late.expect("the desks agree").refusal, 21);
             }
         }
@@ -165,6 +184,39 @@ fn cases_damaged_in_every_byte() {
     }
 }
 
+/// Lists of every length up to 40 by sixteen exchanges in turn, each looked up at every second with
+/// every number: the last sixteen before the trade are examined, or all if they are fewer.
+#[test]
+fn every_number_at_every_trade() {
+    let comparison = QuoteComparison::new(&Proved, &Plain);
+    let quotes: Vec<QuoteFields> = (0..40)
+        .map(|index| QuoteFields {
+            time: 100 + index,
+            exchange: 1 + index * 5 % 16,
+            ..QuoteFields::example()
+        })
+        .collect();
+    for all in 0..=40 {
+        let list = encode_list(&quotes[..all as usize]);
+        for trade_time in 99..=141 {
+            let right = u64::from((trade_time - 100.min(trade_time)).min(all));
+            let told = comparison.quotes_before(&list, trade_time);
+            assert_eq!(told.expect("the desks agree"), right);
+            for before in 0..=u64::from(all) + 1 {
+                let best = comparison
+                    .best_quotes(&list, trade_time, before)
+                    .expect("the desks agree");
+                let expected = if before == right {
+                    (0, right.min(16))
+                } else {
+                    (28, 0)
+                };
+                assert_eq!((best.refusal, best.examined), expected);
+            }
+        }
+    }
+}
+
 #[test]
 fn null_beside_a_length_of_0() {
     let comparison = QuoteComparison::new(&ProvedOnNull, &Plain);
@@ -178,9 +230,19 @@ fn null_beside_a_length_of_0() {
     ] {
         let filled = comparison.fill_case(quotes, case).expect("the desks agree");
         assert_eq!(filled.number, number);
-        let best = comparison.best_quotes(quotes, 34_200);
-        assert_eq!(best.expect("the desks agree").refusal, 0);
+        let before = quotes.len() as u64 / 28;
+        let told = comparison.quotes_before(quotes, 34_200);
+        assert_eq!(told.expect("the desks agree"), before);
+        let best = comparison.best_quotes(quotes, 34_200, before);
+        let best = best.expect("the desks agree");
+        assert_eq!((best.refusal, best.examined), (0, before));
+        let wrong = comparison.best_quotes(quotes, 34_200, before + 1);
+        assert_eq!(wrong.expect("the desks agree").refusal, 28);
     }
-    let late = comparison.best_quotes(&[], 86_400);
-    assert_eq!(late.expect("the desks agree").refusal, 23);
+    for before in [0, 1] {
+        let late = comparison.best_quotes(&[], 86_400, before);
+        assert_eq!(late.expect("the desks agree").refusal, 23);
+    }
+    let told = comparison.quotes_before(&[], 86_400);
+    assert_eq!(told.expect("the desks agree"), 0);
 }

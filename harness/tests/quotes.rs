@@ -1,12 +1,16 @@
 //! The long comparison of the proved and the independent desk on lists of quotes, that it reaches
-//! every rule of request L1, and what holds of every filled case.
+//! every rule of requests L1 and L8, and what holds of every filled case and of every count.
 
-use harness::desk;
-use harness::desks::{Plain, Proved};
-use harness::fields::{encode_list, NONE};
+use std::collections::BTreeSet;
+
+use harness::desk::{self, DeskBest};
+use harness::desks::{Plain, Proved, QuoteDesk};
+use harness::fast_quotes;
+use harness::fields::{encode_list, QuoteFields, NONE};
 use harness::lists::{good_list, trade_time, Lists};
 use harness::quote_compare::{QuoteComparison, FILLED};
 use harness::quote_coverage::QuoteCoverage;
+use harness::quote_faults::{Counted, NUMBER_FAULTS};
 use harness::quote_stream::quote_stream;
 use harness::random::Random;
 use harness::settings;
@@ -44,7 +48,7 @@ fn a_filled_case_holds_the_best_quotes_and_is_accepted() {
         let read = desk::check_case(&case);
         if answer.number != 0 {
             // The case is tested before the quotes.
-            let best = desk::best_quotes(&list, 0);
+            let best = desk::best_quotes(&list, 0, 0);
             let expected = if read == 0 {
                 best.refusal
             } else {
@@ -55,7 +59,8 @@ fn a_filled_case_holds_the_best_quotes_and_is_accepted() {
         }
         assert_eq!(read, 0);
         let executed_at = u32::from_le_bytes(*case[16..].first_chunk().expect("88 bytes"));
-        let best = desk::best_quotes(&list, executed_at);
+        let before = desk::quotes_before(&list, executed_at);
+        let best = desk::best_quotes(&list, executed_at, before);
         assert_eq!(best.refusal, 0);
         let held = quotes_of(&answer.case);
         assert_eq!(held, [best.bid, best.offer, best.bid_size, best.offer_size]);
@@ -83,23 +88,108 @@ fn quotes_from_the_trades_second_on_have_no_say() {
     for _ in 0..settings::lists() / 5 {
         let list = source.list(&mut random);
         let trade_time = trade_time(&mut random, &list);
-        let best = desk::best_quotes(&list, trade_time);
+        let (quotes, _) = list.as_chunks();
+        let before = quotes.partition_point(|quote| time_of(quote) < trade_time);
+        let best = desk::best_quotes(&list, trade_time, before as u64);
         if best.refusal == 0 {
-            let (quotes, _) = list.as_chunks();
-            let before = quotes.partition_point(|quote| time_of(quote) < trade_time);
-            let earlier = desk::best_quotes(&list[..28 * before], trade_time);
-            assert_eq!(earlier, best, "{before} of {} quotes", quotes.len());
+            let earlier = &list[..28 * before];
+            assert_eq!(
+                desk::best_quotes(earlier, trade_time, before as u64),
+                best,
+                "{before} of {} quotes",
+                quotes.len()
+            );
             cut += u64::from(before < quotes.len() && best.bid != u64::from(NONE));
         }
     }
     assert!(cut > settings::lists() / 50, "{cut} lists cut");
 }
 
-/// Two quotes of one second by different exchanges are in order either way round.
+/// "The one by which all sixteen exchanges are known": those examined are the fewest that have a quote
+/// of each exchange, or all before the trade; and the older ones have no say.
+#[test]
+fn the_fewest_quotes_are_examined_and_no_other_has_a_say() {
+    let mut random = Random::new(settings::seed());
+    let mut stopped = 0;
+    for _ in 0..settings::lists() / 5 {
+        let list = encode_list(&good_list(&mut random));
+        let trade_time = trade_time(&mut random, &list).min(86_399);
+        let before = desk::quotes_before(&list, trade_time);
+        let best = desk::best_quotes(&list, trade_time, before);
+        assert_eq!(best.refusal, 0);
+        let end = 28 * before as usize;
+        let examined = &list[end - 28 * best.examined as usize..end];
+        let exchanges = |quotes: &[u8]| {
+            let (records, _) = quotes.as_chunks();
+            let sent = records.iter().map(|it| QuoteFields::decode(it).exchange);
+            sent.collect::<BTreeSet<u32>>().len()
+        };
+        if best.examined < before {
+            assert_eq!(exchanges(examined), 16);
+            stopped += 1;
+        }
+        if best.examined > 0 {
+            assert!(exchanges(&examined[28..]) < 16);
+        }
+        assert_eq!(
+            desk::best_quotes(examined, trade_time, best.examined),
+            best,
+            "{} of {before} quotes",
+            best.examined
+        );
+    }
+    assert!(stopped > settings::lists() / 500, "{stopped} stopped");
+}
+
+/// Of all numbers up to one too many, and of the wrong ones besides.
+#[test]
+fn one_number_alone_is_accepted() {
+    let mut random = Random::new(settings::seed());
+    for _ in 0..settings::lists() / 50 {
+        let list = encode_list(&good_list(&mut random));
+        let trade_time = trade_time(&mut random, &list).min(86_399);
+        let right = desk::quotes_before(&list, trade_time);
+        let counted = Counted::new(&list, trade_time);
+        assert_eq!(right, counted.before);
+        let wrong = NUMBER_FAULTS.iter().map(|fault| fault.apply(counted));
+        for before in (0..=counted.all + 1).chain(wrong) {
+            let best = desk::best_quotes(&list, trade_time, before);
+            let refusal = if before == right { 0 } else { 28 };
+            assert_eq!(best.refusal, refusal, "{before} for {right}");
+        }
+    }
+}
+
+/// What the benchmark has for the plain lookup is no other lookup.
+#[test]
+fn the_benchmarks_own_lookup_is_the_same() {
+    let mut random = Random::new(settings::seed());
+    let source = Lists::default();
+    for _ in 0..settings::lists() / 5 {
+        let list = source.list(&mut random);
+        let trade_time = trade_time(&mut random, &list);
+        assert_eq!(
+            fast_quotes::quotes_before(&list, trade_time),
+            Plain.quotes_before(&list, trade_time)
+        );
+        let counted = Counted::new(&list, trade_time);
+        let wrong = NUMBER_FAULTS.iter().map(|fault| fault.apply(counted));
+        for before in wrong.chain([counted.before]) {
+            assert_eq!(
+                fast_quotes::best_quotes(&list, trade_time, before),
+                Plain.best_quotes(&list, trade_time, before)
+            );
+        }
+    }
+}
+
+/// Two quotes of one second by different exchanges are in order either way round. Which of them is
+/// examined first may change the count, and nothing else.
 #[test]
 fn exchanges_do_not_take_turns_within_a_second() {
     let mut random = Random::new(settings::seed());
     let mut swapped = 0;
+    let mut counted_otherwise = 0;
     for _ in 0..settings::lists() / 5 {
         let mut quotes = good_list(&mut random);
         let list = encode_list(&quotes);
@@ -111,10 +201,13 @@ fn exchanges_do_not_take_turns_within_a_second() {
                 swapped += 1;
             }
         }
-        assert_eq!(
-            desk::best_quotes(&encode_list(&quotes), trade_time),
-            desk::best_quotes(&list, trade_time)
-        );
+        let before = desk::quotes_before(&list, trade_time);
+        let best = desk::best_quotes(&list, trade_time, before);
+        let turned = desk::best_quotes(&encode_list(&quotes), trade_time, before);
+        counted_otherwise += u64::from(turned.examined != best.examined);
+        let examined = best.examined;
+        assert_eq!(DeskBest { examined, ..turned }, best);
     }
+    assert!(counted_otherwise > 0);
     assert!(swapped > settings::lists() / 10, "{swapped} swapped");
 }

@@ -1,5 +1,6 @@
-//! The benchmark: three sheets of 600 cases, and lookups in a list of 2,000 quotes, through the
-//! proved desk, the plain one and a bare copy of the same bytes.
+//! The benchmark: three sheets of 600 cases, and lookups in a list of 2,000 quotes, one and hundreds,
+//! through the proved desk, the plain one and a bare copy of the same bytes. Lookups also go through
+//! the independent desk's own, which is written to be read: the plain one is [`fast_quotes`].
 //!
 //!     bench                              medians of many rounds, in ns per case and per lookup
 //!     bench --count WHO WHAT ROUNDS      only those rounds, for a counter of instructions around it
@@ -10,6 +11,7 @@ use std::time::Instant;
 
 use harness::accepted::accepted;
 use harness::desks::{Desk, Plain, Proved, QuoteDesk};
+use harness::fast_quotes;
 use harness::fields::{encode_list, QuoteFields, NONE};
 use harness::mixture::Mixture;
 use harness::random::Random;
@@ -20,19 +22,28 @@ const QUOTES: usize = 2_000;
 const WARM_UP: usize = 200;
 const ROUNDS: usize = 2_001;
 const SHEETS: [&str; 3] = ["accepted", "refused", "half"];
-/// How many quotes of the list precede the trade.
-const LISTS: [&str; 2] = ["1000", "20"];
+/// How many quotes of the list precede the trade; or many trades all over the list, as on a busy
+/// morning; or for each of those trades the number of quotes before it.
+const LOOKUPS: [&str; 4] = ["1000", "20", MORNING, NUMBER];
+const MORNING: &str = "morning";
+const NUMBER: &str = "number";
+const TRADES: usize = 400;
+const MORNINGS: usize = 201;
 const WORKERS: [&str; 3] = ["proved", "plain", "copy"];
+const QUOTE_WORKERS: [&str; 4] = ["proved", "plain", "page", "copy"];
 
 fn main() {
     let args: Vec<String> = env::args().skip(1).collect();
     let args: Vec<&str> = args.iter().map(String::as_str).collect();
     match args[..] {
         [] => measure(),
-        ["--count", who, what, rounds] if WORKERS.contains(&who) => {
+        ["--count", who, what, rounds] if workers(what).contains(&who) => {
             count(who, what, rounds.parse().expect("a number of rounds"));
         }
-        _ => panic!("usage: bench [--count {WORKERS:?} {SHEETS:?} or {LISTS:?} ROUNDS]"),
+        _ => panic!(
+            "usage: bench [--count {WORKERS:?} {SHEETS:?} ROUNDS] or \
+             [--count {QUOTE_WORKERS:?} {LOOKUPS:?} ROUNDS]"
+        ),
     }
 }
 
@@ -109,46 +120,106 @@ fn sheet(name: &str) -> Vec<u8> {
     cases.into_flattened()
 }
 
-/// A list of quotes, the trade's time, and the buffer for the copy.
+/// A list of quotes, the trades to be looked up in it, and the buffer for the copy.
 struct Lookup {
     quotes: Vec<u8>,
-    trade_time: u32,
+    trades: Vec<Trade>,
     read: Vec<u8>,
 }
 
+#[derive(Clone, Copy)]
+struct Trade {
+    time: u32,
+    /// The number of quotes before it, found before the first round.
+    before: u64,
+}
+
 impl Lookup {
-    /// Both desks answer once, and alike; there is a best bid and offer to find.
-    fn new(before: &str) -> Lookup {
-        let before: usize = before.parse().expect("a number of quotes");
+    /// All desks answer once, and alike; from 20 quotes on there is a best bid and offer to find.
+    fn new(name: &str) -> Lookup {
         let quotes = quotes();
-        let trade_time = quotes[before].time;
-        let earlier = quotes.iter().filter(|quote| quote.time < trade_time);
-        assert_eq!(earlier.count(), before);
-        let quotes = encode_list(&quotes);
-        let proved = Proved.best_quotes(&quotes, trade_time);
-        let plain = Plain.best_quotes(&quotes, trade_time);
-        assert_eq!(proved, plain, "the desks agree");
-        assert_eq!(proved.refusal, 0);
-        assert!(proved.bid_size > 0 && proved.offer_size > 0);
-        Lookup {
-            read: vec![0; quotes.len()],
-            quotes,
-            trade_time,
+        let places: Vec<usize> = match name {
+            MORNING => (1..=TRADES)
+                .map(|trade| trade * QUOTES / TRADES - 1)
+                .collect(),
+            _ => vec![name.parse().expect("a number of quotes")],
+        };
+        let trades = places.iter().map(|&before| Trade {
+            time: quotes[before].time,
+            before: before as u64,
+        });
+        let lookup = Lookup {
+            trades: trades.collect(),
+            quotes: encode_list(&quotes),
+            read: vec![0; QUOTES * 28],
+        };
+        for &Trade { time, before } in &lookup.trades {
+            let proved = Proved.best_quotes(&lookup.quotes, time, before);
+            let plain = fast_quotes::best_quotes(&lookup.quotes, time, before);
+            let page = Plain.best_quotes(&lookup.quotes, time, before);
+            assert_eq!([proved, plain], [page; 2], "the desks agree");
+            assert_eq!(proved.refusal, 0);
+            assert!(before < 20 || (proved.bid_size > 0 && proved.offer_size > 0));
         }
+        lookup
     }
 }
 
 impl Bench for Lookup {
     fn round(&mut self, worker: &str) {
-        let (quotes, trade_time) = (black_box(&self.quotes), black_box(self.trade_time));
-        match worker {
-            "proved" => {
-                black_box(Proved.best_quotes(quotes, trade_time));
+        for &Trade { time, before } in &self.trades {
+            let quotes = black_box(&self.quotes[..]);
+            let (time, before) = (black_box(time), black_box(before));
+            match worker {
+                "proved" => {
+                    black_box(Proved.best_quotes(quotes, time, before));
+                }
+                "plain" => {
+                    black_box(fast_quotes::best_quotes(quotes, time, before));
+                }
+                "page" => {
+                    black_box(Plain.best_quotes(quotes, time, before));
+                }
+                _ => black_box(&mut self.read).copy_from_slice(quotes),
             }
-            "plain" => {
-                black_box(Plain.best_quotes(quotes, trade_time));
+        }
+    }
+}
+
+/// The same trades, and the number of quotes before each to be told.
+struct Number(Lookup);
+
+impl Number {
+    /// All desks answer once, and alike.
+    fn new() -> Number {
+        let lookup = Lookup::new(MORNING);
+        for &Trade { time, before } in &lookup.trades {
+            let proved = Proved.quotes_before(&lookup.quotes, time);
+            let plain = fast_quotes::quotes_before(&lookup.quotes, time);
+            let page = Plain.quotes_before(&lookup.quotes, time);
+            assert_eq!([proved, plain, page], [before; 3], "the desks agree");
+        }
+        Number(lookup)
+    }
+}
+
+impl Bench for Number {
+    fn round(&mut self, worker: &str) {
+        let Number(lookup) = self;
+        for &Trade { time, .. } in &lookup.trades {
+            let (quotes, time) = (black_box(&lookup.quotes[..]), black_box(time));
+            match worker {
+                "proved" => {
+                    black_box(Proved.quotes_before(quotes, time));
+                }
+                "plain" => {
+                    black_box(fast_quotes::quotes_before(quotes, time));
+                }
+                "page" => {
+                    black_box(Plain.quotes_before(quotes, time));
+                }
+                _ => black_box(&mut lookup.read).copy_from_slice(quotes),
             }
-            _ => black_box(&mut self.read).copy_from_slice(quotes),
         }
     }
 }
@@ -184,29 +255,68 @@ fn measure() {
         "seed {}, medians of {ROUNDS} rounds\n{CASES} cases a sheet, ns per case",
         settings::seed()
     );
-    head("sheet");
+    head("sheet", &WORKERS);
     for name in SHEETS {
-        line(name, &mut Ruling::new(name), CASES);
+        line(name);
     }
-    println!("{QUOTES} quotes a list, so many before the trade, ns per lookup");
-    head("before");
-    for name in LISTS {
-        line(name, &mut Lookup::new(name), 1);
+    println!(
+        "{QUOTES} quotes a list, so many before the trade, ns per lookup\n\
+         {MORNING}: hundreds of lookups in one list, {TRADES} a round, each with its number\n\
+         {NUMBER}: the number itself told for each, medians of {MORNINGS} rounds both"
+    );
+    head("before", &QUOTE_WORKERS);
+    for name in LOOKUPS {
+        line(name);
     }
 }
 
-fn head(what: &str) {
-    println!(
-        "{what:<10}{:>10}{:>10}{:>10}{:>14}",
-        WORKERS[0], WORKERS[1], WORKERS[2], "proved/plain"
-    );
+fn workers(what: &str) -> &'static [&'static str] {
+    if SHEETS.contains(&what) {
+        &WORKERS
+    } else {
+        &QUOTE_WORKERS
+    }
+}
+
+fn bench(what: &str) -> Box<dyn Bench> {
+    match what {
+        NUMBER => Box::new(Number::new()),
+        _ if SHEETS.contains(&what) => Box::new(Ruling::new(what)),
+        _ => Box::new(Lookup::new(what)),
+    }
+}
+
+fn rounds(what: &str) -> usize {
+    match what {
+        MORNING | NUMBER => MORNINGS,
+        _ => ROUNDS,
+    }
+}
+
+/// How many cases or lookups a round has.
+fn in_a_round(what: &str) -> usize {
+    match what {
+        MORNING | NUMBER => TRADES,
+        _ if SHEETS.contains(&what) => CASES,
+        _ => 1,
+    }
+}
+
+fn head(what: &str, workers: &[&str]) {
+    print!("{what:<10}");
+    for worker in workers {
+        print!("{worker:>10}");
+    }
+    println!("{:>14}", "proved/plain");
 }
 
 /// The workers take turns; a line of medians, each divided by what a round has.
-fn line(name: &str, bench: &mut dyn Bench, in_a_round: usize) {
-    let mut times = WORKERS.map(|_| Vec::with_capacity(ROUNDS));
-    for round in 0..WARM_UP + ROUNDS {
-        for (worker, times) in WORKERS.iter().zip(&mut times) {
+fn line(name: &str) {
+    let mut bench = bench(name);
+    let (workers, rounds) = (workers(name), rounds(name));
+    let mut times = vec![Vec::with_capacity(rounds); workers.len()];
+    for round in 0..WARM_UP + rounds {
+        for (worker, times) in workers.iter().zip(&mut times) {
             let start = Instant::now();
             bench.round(worker);
             let time = start.elapsed();
@@ -215,11 +325,15 @@ fn line(name: &str, bench: &mut dyn Bench, in_a_round: usize) {
             }
         }
     }
-    let [proved, plain, copy] = times.map(|times| median(times) / in_a_round as f64);
-    println!(
-        "{name:<10}{proved:>10.1}{plain:>10.1}{copy:>10.1}{:>14.2}",
-        proved / plain
-    );
+    let medians: Vec<f64> = times
+        .into_iter()
+        .map(|times| median(times) / in_a_round(name) as f64)
+        .collect();
+    print!("{name:<10}");
+    for median in &medians {
+        print!("{median:>10.1}");
+    }
+    println!("{:>14.2}", medians[0] / medians[1]);
 }
 
 fn median(mut times: Vec<u128>) -> f64 {
@@ -228,11 +342,7 @@ fn median(mut times: Vec<u128>) -> f64 {
 }
 
 fn count(worker: &str, what: &str, rounds: usize) {
-    let mut bench: Box<dyn Bench> = if SHEETS.contains(&what) {
-        Box::new(Ruling::new(what))
-    } else {
-        Box::new(Lookup::new(what))
-    };
+    let mut bench = bench(what);
     for _ in 0..rounds {
         bench.round(worker);
     }

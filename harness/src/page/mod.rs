@@ -1,7 +1,7 @@
-//! The independent desk: document 01, and request L1 of document 02, once more in plain Rust.
+//! The independent desk: document 01, and requests L1 and L8 of document 02, once more in plain Rust.
 //!
-//! It is written from these alone and shares nothing with the proved desk, so that the two can
-//! be compared; it is also the benchmark's baseline. Every part uses only this folder (`super::`),
+//! It is written from these and what was decided where they are silent, and shares nothing with
+//! the proved desk, so that the two can be compared; it is also the benchmark's baseline for sheets. Every part uses only this folder (`super::`),
 //! so that the test of mutants can compile broken copies of it; the public parts are those that a
 //! broken copy of the quotes' part uses as they are.
 
@@ -15,6 +15,7 @@ mod quotes;
 pub mod reading;
 pub mod refusal;
 mod ruling;
+mod told;
 pub mod units;
 mod way;
 
@@ -23,9 +24,10 @@ pub use bands::{band, Band};
 pub use case::{Agreement, Case, Day, Kind, Party, Quote, Side, Terms};
 pub use filling::fill_case;
 pub use printer::print_sheet;
-pub use quotes::{best_quotes, Best};
+pub use quotes::{best_quotes, quotes_before, Best};
 pub use reading::{read_case, CASE_BYTES};
 pub use refusal::Refusal;
 pub use ruling::{rule, theoretical_price, Outcome, Reason, Ruling, TheoreticalPrice};
+pub use told::{best_told, number_told};
 pub use units::{Contracts, Mills, Seconds};
 pub use way::{open_way, Way};

@@ -1,5 +1,5 @@
-//! Request L1 of document 02: the best bid and offer from the exchanges' quotes, and the tests 20 to
-//! 23 in their order.
+//! Requests L1 and L8 of document 02: the best bid and offer from the exchanges' quotes, how many
+//! quotes were examined for them, and the tests 20 to 23 and 28 in their order.
 
 use super::case::Quote;
 use super::reading::{u16_at, u32_at, HIGHEST_PRICE, LAST_SECOND, MOST_CONTRACTS, NONE};
@@ -18,21 +18,42 @@ type Sent = [u8; QUOTE_BYTES];
 /// Each exchange's last quote before the trade, in the exchange's place.
 type LastSent<'a> = [Option<&'a Sent>; EXCHANGES];
 
-/// The best bid and the best offer, each none where no exchange has a say.
+/// The best bid and the best offer, each none where no exchange has a say; and "the quotes examined
+/// with each lookup".
 #[derive(Clone, Copy, Debug, PartialEq, Eq)]
 pub struct Best {
     pub bid: Option<Quote>,
     pub offer: Option<Quote>,
+    pub examined: usize,
+}
+
+/// "The caller brings the number of quotes strictly before the trade. Refusals: 28 that number is
+/// wrong, after 23."
+pub fn best_quotes(quotes: &[u8], trade_time: u32, before: u64) -> Result<Best, Refusal> {
+    let (list, trade_time) = tested(quotes, trade_time)?;
+    right_number(list, trade_time, before)?;
+    let (bid, offer) = best_of(&last_sent(list, trade_time));
+    Ok(Best {
+        bid,
+        offer,
+        examined: examined(&list[..number_before(list, trade_time)]),
+    })
+}
+
+/// The number that a caller should bring.
+pub fn quotes_before(quotes: &[u8], trade_time: u32) -> Result<u64, Refusal> {
+    let (list, trade_time) = tested(quotes, trade_time)?;
+    Ok(number_before(list, trade_time) as u64)
 }
 
 /// "Refusals: 20 .., 21 .., 22 .., 23 .., in that order": each test is made on the whole list before
 /// the next.
-pub fn best_quotes(quotes: &[u8], trade_time: u32) -> Result<Best, Refusal> {
+fn tested(quotes: &[u8], trade_time: u32) -> Result<(&[Sent], Seconds), Refusal> {
     let list = list_of(quotes)?;
     good_fields(list)?;
     in_order(list)?;
     let trade_time = time_of_trade(trade_time)?;
-    Ok(best_of(&last_sent(list, trade_time)))
+    Ok((list, trade_time))
 }
 
 /// Test 20: "length not a multiple of 28 or above 56,000".
@@ -92,6 +113,37 @@ fn time_of_trade(word: u32) -> Result<Seconds, Refusal> {
     }
 }
 
+/// Test 28: "that number is wrong".
+fn right_number(list: &[Sent], trade_time: Seconds, before: u64) -> Result<(), Refusal> {
+    if before == number_before(list, trade_time) as u64 {
+        Ok(())
+    } else {
+        Err(Refusal::QuotesBefore)
+    }
+}
+
+/// "The number of quotes strictly before the trade."
+fn number_before(list: &[Sent], trade_time: Seconds) -> usize {
+    let before = list.iter().filter(|sent| time(sent) < trade_time);
+    before.count()
+}
+
+/// "From the last quote strictly before the trade backwards, down to and including the one by which
+/// all sixteen exchanges are known, or to the first if that never comes." Any quote makes its
+/// exchange known, one of none too.
+fn examined(before: &[Sent]) -> usize {
+    let mut known = [false; EXCHANGES];
+    let mut count = 0;
+    for sent in before.iter().rev() {
+        count += 1;
+        known[exchange(sent) - 1] = true;
+        if known == [true; EXCHANGES] {
+            break;
+        }
+    }
+    count
+}
+
 /// "Find each exchange's last quote strictly before the trade."
 fn last_sent(list: &[Sent], trade_time: Seconds) -> LastSent<'_> {
     let mut last = [None; EXCHANGES];
@@ -106,15 +158,15 @@ fn last_sent(list: &[Sent], trade_time: Seconds) -> LastSent<'_> {
 
 /// "The best bid is the highest bid among those, its size the sum of sizes at that price; the offer
 /// likewise with the lowest. An exchange that last sent none has no say."
-fn best_of(last: &LastSent) -> Best {
+fn best_of(last: &LastSent) -> (Option<Quote>, Option<Quote>) {
     let bids = last.iter().flatten().filter_map(|sent| bid(sent));
     let offers = last.iter().flatten().filter_map(|sent| offer(sent));
     let highest = bids.clone().map(|bid| bid.price).max();
     let lowest = offers.clone().map(|offer| offer.price).min();
-    Best {
-        bid: highest.map(|price| joined(price, bids)),
-        offer: lowest.map(|price| joined(price, offers)),
-    }
+    (
+        highest.map(|price| joined(price, bids)),
+        lowest.map(|price| joined(price, offers)),
+    )
 }
 
 /// The quotes at that price as one. "A sum above 1,000,000 is given as 1,000,000."

@@ -1,4 +1,4 @@
-//! "Numbers given back instead of a ruling", and those of request L1 for a list of quotes.
+//! "Numbers given back instead of a ruling", and those of requests L1 and L8 for a list of quotes.
 
 #[derive(Clone, Copy, Debug, PartialEq, Eq)]
 pub enum Refusal {
@@ -17,6 +17,7 @@ pub enum Refusal {
     QuoteField = 21,
     QuoteOrder = 22,
     TradeTime = 23,
+    QuotesBefore = 28,
 }
 
 impl Refusal {
