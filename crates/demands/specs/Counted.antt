@@ -251,8 +251,7 @@ module _ (a b : List ℕ) (t n : ℕ) (wa : Whole a) (good : lookedOf (a ++ b) t
   pub all-known : allKnown (lasts (earlier t (postedIn b))) ≡ true → lookedOf (a ++ b) t n ≡ lookedOf b t (countOf b t)
   all-known h = lookups.Counted.all-known-bytes a b t n wa good h ∙ ap (lookedOf b t) (own-number b t (lookups.Counted.rest-good a b t n wa good))
 
--- So every two calls, one with the records a and one without them, each with its right number: the same prices, sizes and count. `few` stands for either
--- premise.
+-- So every two calls, one with the records a and one without them, each with its right number: the same prices, sizes and count. `Few` is either premise.
 abbrev pub Few : ℕ → List ℕ → ℕ → Type 0
 Few examined b t = (examined ≤ countOf b t) ⊎ (allKnown (lasts (earlier t (postedIn b))) ≡ true)
 
