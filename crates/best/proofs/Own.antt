@@ -54,27 +54,30 @@ module _ (s : List ℕ) (t : ℕ) where
   pub own-looked : quotesRefusalOf s t ≡ 0 → lookedOf s t (quotesBeforeOf s t) ≡ lookedIn (earlier t (postedIn s))
   own-looked h = looked-right s t (quotesBeforeOf s t) h (before-right s t h)
 
-  good : quotesRefusalOf s t ≡ 0 → (lookedOf s t (quotesBeforeOf s t) .found ≡ foundOf s t) × (lookedOf s t (quotesBeforeOf s t) .examined ≤ 2000)
+  -- what is found is theirs, and the count is no more than there can be quotes
+  abbrev Own : Type 0
+  Own = (lookedOf s t (quotesBeforeOf s t) .found ≡ foundOf s t) × (lookedOf s t (quotesBeforeOf s t) .examined ≤ 2000)
+
+  good : quotesRefusalOf s t ≡ 0 → Own
   unfolding lookedIn
   good h = (
     ap (λ (l : Looked). l .found) (own-looked h) ∙ found h,
     omega (arith, looked-most (quotesBeforeOf s t), count-most s t (all-rising s t h), few-quotes s t h),
   )
 
-  bad : (quotesRefusalOf s t ≡ 0 → ⊥) → (lookedOf s t (quotesBeforeOf s t) .found ≡ foundOf s t) × (lookedOf s t (quotesBeforeOf s t) .examined ≤ 2000)
+  bad : (quotesRefusalOf s t ≡ 0 → ⊥) → Own
   bad h =
       let u = looked-refused s t (quotesBeforeOf s t) (quotesRefusalOf s t) refl h in
       (ap (λ (l : Looked). l .found) (sym u) ∙ found-refused (quotesRefusalOf s t) refl h, rw (← u) (omega arith))
 
-  both : (lookedOf s t (quotesBeforeOf s t) .found ≡ foundOf s t) × (lookedOf s t (quotesBeforeOf s t) .examined ≤ 2000)
-  both = by-test (eqb (quotesRefusalOf s t) 0) refl where
-    by-test : (b : Bool) → eqb (quotesRefusalOf s t) 0 ≡ b
-        → (lookedOf s t (quotesBeforeOf s t) .found ≡ foundOf s t) × (lookedOf s t (quotesBeforeOf s t) .examined ≤ 2000)
+  own : Own
+  own = by-test (eqb (quotesRefusalOf s t) 0) refl where
+    by-test : (b : Bool) → eqb (quotesRefusalOf s t) 0 ≡ b → Own
     by-test true e = good (eqb-true (quotesRefusalOf s t) 0 e)
     by-test false e = bad (eqb-false (quotesRefusalOf s t) 0 e)
 
   pub own-found : lookedOf s t (quotesBeforeOf s t) .found ≡ foundOf s t
-  own-found = both .0
+  own-found = own .0
 
   pub own-most : lookedOf s t (quotesBeforeOf s t) .examined ≤ 2000
-  own-most = both .1
+  own-most = own .1
