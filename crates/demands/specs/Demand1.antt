@@ -40,7 +40,6 @@ pub nothing-asked : (κ : Lfts 1) (κs : Lfts 2) (s b : RefT (List ℕ)) (f : Fa
     → cases.check_case.Reads.Asked κ (s, tt)
     × cases.read_case.Reads.Asked κ (s, tt)
     × cases.write_case.Reads.Asked κ (f, (b, tt))
-    × ruling.rule.Reads.Asked tt (f, tt)
     × answer.rule_case.Reads.Asked κs (s, (b, tt))
     × sheet.rule_sheet.Reads.Asked κs (s, (b, tt))
     × report.print_sheet.Reads.Asked κs (s, (b, tt))
@@ -48,7 +47,11 @@ pub nothing-asked : (κ : Lfts 1) (κs : Lfts 2) (s b : RefT (List ℕ)) (f : Fa
     × desk.desk_rule_case.Reads.Asked κs (s, (b, tt))
     × desk.desk_rule_sheet.Reads.Asked κs (s, (b, tt))
     × desk.desk_print_sheet.Reads.Asked κs (s, (b, tt))
-nothing-asked κ κs s b f = (tt, tt, tt, tt, tt, tt, tt, tt, tt, tt, tt)
+nothing-asked κ κs s b f = (tt, tt, tt, tt, tt, tt, tt, tt, tt, tt)
+
+-- Below them the ruling asks for the 88 bytes of a case, accepted or not, and for nothing else.
+pub rule-asks : (κ : Lfts 1) (s : RefT (List ℕ)) → length (now s) ≡ 88 → ruling.rule.Reads.Asked κ (s, tt)
+rule-asks κ s h = h
 
 -- ---- a case read
 

@@ -34,10 +34,6 @@ Said answer bytes r before after = (r ≡ answer) × (after ≡ laid bytes befor
 
 -- ---- facts
 
--- They are ruled by the steps of a ruling.
-pub rule-says : (f f' : Facts) (r : Ruling) → ruling.rule.Reads.Post tt (f, tt) r (f', tt) → r ≡ rulingOf f
-rule-says f f' r p = p .0
-
 -- They are written as the record's table says, or refused by the table of numbers.
 pub write-case-says : (κ : Lfts 1) (f f' : Facts) (out out' : RefT (List ℕ)) (r : ℕ) → cases.write_case.Reads.Post κ (f, (out, tt)) r (f', (out', tt))
     → let a = writingOf f (length (now out)) in Said (a .0) (a .1) r (now out) (now out')
@@ -51,6 +47,10 @@ module _ (κ : Lfts 1) (s s' : RefT (List ℕ)) where
 
   pub desk-check-case-says : (r : ℕ) → desk.desk_check_case.Reads.Post κ (s, tt) r (s', tt) → r ≡ refusalOf (now s)
   desk-check-case-says r p = p
+
+  -- The facts that 88 of them say are ruled by the steps of a ruling.
+  pub rule-says : (r : Ruling) → ruling.rule.Reads.Post κ (s, tt) r (s', tt) → r ≡ rulingOf (factsOf (now s))
+  rule-says r p = p .0
 
   -- They are read as the record's table says.
   pub read-case-says : (r : Reading) → cases.read_case.Reads.Post κ (s, tt) r (s', tt) → r ≡ readingOf (now s)

@@ -106,8 +106,29 @@ pub flag-number-exact : Exact (codes.flag_number.Reads.Post tt)
 flag-number-exact = codes.Exact.flag-number-exact
 
 -- ---- record, writing
-pub code-at-exact : (κs : Lfts 1) → Exact (records.code_at.Reads.Post κs)
-code-at-exact = records.Exact.code-at-exact
+pub trade-of-exact : (κs : Lfts 1) → Exact (records.trade_of.Reads.Post κs)
+trade-of-exact = records.Exact.trade-of-exact
+
+pub market-of-exact : (κs : Lfts 1) → Exact (records.market_of.Reads.Post κs)
+market-of-exact = records.Exact.market-of-exact
+
+pub request-of-exact : (κs : Lfts 1) → Exact (records.request_of.Reads.Post κs)
+request-of-exact = records.Exact.request-of-exact
+
+pub buyer-kind-exact : (κs : Lfts 1) → Exact (records.buyer_kind.Reads.Post κs)
+buyer-kind-exact = records.Exact.buyer-kind-exact
+
+pub seller-kind-exact : (κs : Lfts 1) → Exact (records.seller_kind.Reads.Post κs)
+seller-kind-exact = records.Exact.seller-kind-exact
+
+pub buyer-of-exact : (κs : Lfts 1) → Exact (records.buyer_of.Reads.Post κs)
+buyer-of-exact = records.Exact.buyer-of-exact
+
+pub seller-of-exact : (κs : Lfts 1) → Exact (records.seller_of.Reads.Post κs)
+seller-of-exact = records.Exact.seller-of-exact
+
+pub settlement-of-exact : (κs : Lfts 1) → Exact (records.settlement_of.Reads.Post κs)
+settlement-of-exact = records.Exact.settlement-of-exact
 
 pub facts-of-exact : (κs : Lfts 1) → Exact (records.facts_of.Reads.Post κs)
 facts-of-exact = records.Exact.facts-of-exact
@@ -243,7 +264,7 @@ find-act-exact = act.Exact.find-act-exact
 pub outcome-of-exact : Exact (reasons.outcome_of.Reads.Post tt)
 outcome-of-exact = reasons.Exact.outcome-of-exact
 
-pub rule-exact : Exact (ruling.rule.Reads.Post tt)
+pub rule-exact : (κs : Lfts 1) → Exact (ruling.rule.Reads.Post κs)
 rule-exact = ruling.Exact.rule-exact
 
 -- ---- figures, notices

@@ -4,7 +4,7 @@ ghost use mathlib.Core.Path.{_≡_};
 ghost use lib.ListN.{length};
 ghost use Rattle.record.specs.Record.{factsOf};
 ghost use Rattle.ruling.specs.Ruling.{rulingOf};
-ghost use Rattle.ruling.specs.Outcomes.{newPrice, countsOf};
+ghost use Rattle.reasons.specs.Reasons.{reasonOutcome};
 ghost use Rattle.figures.specs.Figures.{figuresOf};
 use facts::Price;
 use ruling::Counts;
@@ -22,49 +22,42 @@ pub struct Figures {
     pub standing: u32,
 }
 
-fn new_price(o: Outcome) -> Price
-    ensures { λ r. ⌜ r ≡ newPrice o ⌝ }
+// The figures for a reason: TP and the new price as numbers, and the counts.
+fn spell(trade: u32, reason: u8, tp: u32, price: u32, counts: Counts) -> Figures
+    ensures { λ n. ⌜ n ≡ record { trade = trade; outcome = reasonOutcome reason; reason = reason; tp = tp; price = price; adjusted = counts .adjusted .0; nullified = counts .nullified .0; standing = counts .standing .0 } ⌝ }
 {
-    match o {
-        Outcome::NoRelief(_) => Price::None,
-        Outcome::Adjusted(a) => {
-            let price = a.price;
-            Price::At(price)
-        }
-        Outcome::Nullified(_) => Price::None,
-        Outcome::Waiting(_) => Price::None,
-    }
-}
-
-fn counts_of(o: Outcome) -> Counts
-    ensures { λ r. ⌜ r ≡ countsOf o ⌝ }
-{
-    match o {
-        Outcome::NoRelief(c) => c,
-        Outcome::Adjusted(a) => a.counts,
-        Outcome::Nullified(c) => c,
-        Outcome::Waiting(c) => c,
+    Figures {
+        trade: trade,
+        outcome: reasons::outcome_of(reason),
+        reason: reason,
+        tp: tp,
+        price: price,
+        adjusted: counts.adjusted.0,
+        nullified: counts.nullified.0,
+        standing: counts.standing.0,
     }
 }
 
 // The ruling on a case of 88 bytes, in the page's numbers. The outcome is decided by the reason, which `rule` promises to be the same.
-// Reading, ruling and figures in one call, so that neither the facts nor the ruling need pass through memory.
+// Reading, ruling and figures in one call, so that neither the facts nor the ruling need pass through memory; each outcome is spelt in its
+// own arm, since what has come together from several lies on the stack.
 pub fn judge(case: &[u8]) -> Figures
     requires { ⌜ length (now case) ≡ 88 ⌝ }
     ensures { λ n. ⌜ n ≡ figuresOf (rulingOf (factsOf (now (case .entry)))) ⌝ }
 {
-    let r = ruling::rule(record::facts_of(case));
+    let r = ruling::rule(case);
     let outcome = r.outcome;
-    let tp = r.tp;
-    let counts = counts_of(outcome);
-    Figures {
-        trade: r.trade,
-        outcome: reasons::outcome_of(r.reason),
-        reason: r.reason,
-        tp: facts::price_number(tp),
-        price: facts::price_number(new_price(outcome)),
-        adjusted: counts.adjusted.0,
-        nullified: counts.nullified.0,
-        standing: counts.standing.0,
+    let given = r.tp;
+    let tp = facts::price_number(given);
+    let none = facts::price_number(Price::None);
+    match outcome {
+        Outcome::NoRelief(counts) => spell(r.trade, r.reason, tp, none, counts),
+        Outcome::Adjusted(a) => {
+            let price = a.price;
+            let counts = a.counts;
+            spell(r.trade, r.reason, tp, price.0, counts)
+        }
+        Outcome::Nullified(counts) => spell(r.trade, r.reason, tp, none, counts),
+        Outcome::Waiting(counts) => spell(r.trade, r.reason, tp, none, counts),
     }
 }

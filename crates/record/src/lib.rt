@@ -1,5 +1,5 @@
-// The 88 bytes of a case record: the facts that they say. Nothing is refused here: whoever asks has tested the length
-// (`cases`), and the tests of `refusals` judge the bytes and the facts.
+// The 88 bytes of a case record: the facts that they say, all of them or a group at a time, so that a step of a ruling reads what it needs
+// and no more. Nothing is refused here: whoever asks has tested the length (`cases`), and the tests of `refusals` judge the bytes and the facts.
 ghost use mathlib.Core.Path.{_≡_};
 ghost use Prim.Native.Nat.{_+_, _≤_, _<_};
 ghost use lib.ListN.{length};
@@ -7,6 +7,7 @@ ghost use Rattle.wire.specs.Numbers.{elements};
 ghost use Rattle.record.specs.Record.{partyAt, tradeOf, marketOf, requestOf, settlementOf, factsOf};
 use facts::Contracts;
 use facts::Facts;
+use facts::Kind;
 use facts::Market;
 use facts::Mills;
 use facts::Party;
@@ -16,11 +17,8 @@ use facts::Seconds;
 use facts::Settlement;
 use facts::Trade;
 
-// A member code.
-pub type Code = [u8; 4];
-
 // The four bytes of a member code.
-pub fn code_at(s: &[u8], at: usize) -> Code
+fn code_at(s: &[u8], at: usize) -> [u8; 4]
     requires { ⌜ at + 4 ≤ length (now s) ⌝ }
     ensures { λ r. ⌜ r ≡ elements 4 (now (s .entry)) at ⌝ }
 {
@@ -42,7 +40,8 @@ fn party_at(s: &[u8], at: usize, kind_at: usize) -> Party
     }
 }
 
-fn trade_of(s: &[u8]) -> Trade
+// The trade.
+pub fn trade_of(s: &[u8]) -> Trade
     requires { ⌜ length (now s) ≡ 88 ⌝ }
     ensures { λ r. ⌜ r ≡ tradeOf (now (s .entry)) ⌝ }
 {
@@ -54,7 +53,8 @@ fn trade_of(s: &[u8]) -> Trade
     }
 }
 
-fn market_of(s: &[u8]) -> Market
+// The market's quotes and the official's price.
+pub fn market_of(s: &[u8]) -> Market
     requires { ⌜ length (now s) ≡ 88 ⌝ }
     ensures { λ r. ⌜ r ≡ marketOf (now (s .entry)) ⌝ }
 {
@@ -73,7 +73,8 @@ fn market_of(s: &[u8]) -> Market
     }
 }
 
-fn request_of(s: &[u8]) -> Request
+// The request.
+pub fn request_of(s: &[u8]) -> Request
     requires { ⌜ length (now s) ≡ 88 ⌝ }
     ensures { λ r. ⌜ r ≡ requestOf (now (s .entry)) ⌝ }
 {
@@ -87,7 +88,40 @@ fn request_of(s: &[u8]) -> Request
     }
 }
 
-fn settlement_of(s: &[u8]) -> Settlement
+// The buyer's kind.
+pub fn buyer_kind(s: &[u8]) -> Kind
+    requires { ⌜ length (now s) ≡ 88 ⌝ }
+    ensures { λ r. ⌜ r ≡ partyAt (now (s .entry)) 48 64 .kind ⌝ }
+{
+    codes::kind_of(s[64])
+}
+
+// The seller's kind.
+pub fn seller_kind(s: &[u8]) -> Kind
+    requires { ⌜ length (now s) ≡ 88 ⌝ }
+    ensures { λ r. ⌜ r ≡ partyAt (now (s .entry)) 56 65 .kind ⌝ }
+{
+    codes::kind_of(s[65])
+}
+
+// The buyer.
+pub fn buyer_of(s: &[u8]) -> Party
+    requires { ⌜ length (now s) ≡ 88 ⌝ }
+    ensures { λ r. ⌜ r ≡ partyAt (now (s .entry)) 48 64 ⌝ }
+{
+    party_at(s, 48, 64)
+}
+
+// The seller.
+pub fn seller_of(s: &[u8]) -> Party
+    requires { ⌜ length (now s) ≡ 88 ⌝ }
+    ensures { λ r. ⌜ r ≡ partyAt (now (s .entry)) 56 65 ⌝ }
+{
+    party_at(s, 56, 65)
+}
+
+// What the parties settled after notice.
+pub fn settlement_of(s: &[u8]) -> Settlement
     requires { ⌜ length (now s) ≡ 88 ⌝ }
     ensures { λ r. ⌜ r ≡ settlementOf (now (s .entry)) ⌝ }
 {
@@ -108,8 +142,8 @@ pub fn facts_of(s: &[u8]) -> Facts
         trade: trade_of(s),
         market: market_of(s),
         request: request_of(s),
-        buyer: party_at(s, 48, 64),
-        seller: party_at(s, 56, 65),
+        buyer: buyer_of(s),
+        seller: seller_of(s),
         settlement: settlement_of(s),
     }
 }

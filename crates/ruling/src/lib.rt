@@ -1,14 +1,16 @@
-// The ruling on a case: the steps of the page joined (RULE R1.8), from facts to outcome, reason, price and counts.
-// Refuses nothing: facts that were not accepted have a ruling too, and nobody asks for it.
+// The ruling on a case: the steps of the page joined (RULE R1.8), from the facts of a record to outcome, reason, price and counts. Each step
+// reads from the record the groups of facts that it needs: handed down by value, all facts would lie on the stack until the last step.
+// Refuses nothing: a record that was not accepted has a ruling too, and nobody asks for it; whoever asks has tested the length.
 // Contracts are subtracted here and nowhere else; besides, only the tests (`prices`) compare them, with their bounds.
 ghost use mathlib.Core.Path.{_≡_};
+ghost use lib.ListN.{length};
+ghost use Rattle.record.specs.Record.{factsOf};
 ghost use Rattle.ruling.specs.Counts.{coveredBy, covered, restOf};
 ghost use Rattle.ruling.specs.Ruling.{noRelief, waiting, nullify, adjust, carriedOut, settled, ruledAt, ruledOn, ruledBy, rulingOf};
 ghost use Rattle.ruling.specs.Numbers.{InNumbers};
 use act::Act;
 use agreement::Heeded;
 use facts::Contracts;
-use facts::Facts;
 use facts::Mills;
 use facts::Price;
 use facts::Trade;
@@ -169,91 +171,92 @@ fn carry_out(trade: Trade, way: Way, source: Source, act: Act) -> Ruling
 }
 
 // Agreement, then the act.
-fn settle(f: Facts, way: Way, source: Source, heeded: Heeded) -> Ruling
-    ensures { λ r. ⌜ r ≡ settled f way source heeded ⌝ }
+fn settle(case: &[u8], way: Way, source: Source, heeded: Heeded) -> Ruling
+    requires { ⌜ length (now case) ≡ 88 ⌝ }
+    ensures { λ r. ⌜ r ≡ settled (factsOf (now (case .entry))) way source heeded ⌝ }
 {
-    let trade = f.trade;
     let tp = source.price;
     match heeded {
         Heeded::Ignored => {
-            let request = f.request;
+            let request = record::request_of(case);
             let side = request.side;
-            let settlement = f.settlement;
+            let settlement = record::settlement_of(case);
             let accepted = settlement.accepted;
             let told = agreement::accepted_in_time(accepted);
-            let act = act::find_act(way, side, f.buyer, f.seller, told, tp, bands::band_of(tp));
-            carry_out(trade, way, source, act)
+            let buyer = record::buyer_of(case);
+            let seller = record::seller_of(case);
+            let act = act::find_act(way, side, buyer, seller, told, tp, bands::band_of(tp));
+            carry_out(record::trade_of(case), way, source, act)
         }
-        Heeded::Repriced(price) => adjust(trade, way, source, 10, price),
-        Heeded::Undone => nullify(trade, 13, tp),
+        Heeded::Repriced(price) => adjust(record::trade_of(case), way, source, 10, price),
+        Heeded::Undone => nullify(record::trade_of(case), 13, tp),
     }
 }
 
 // The error, then agreement.
-fn rule_at(f: Facts, way: Way, source: Source) -> Ruling
-    ensures { λ r. ⌜ r ≡ ruledAt f way source ⌝ }
+fn rule_at(case: &[u8], way: Way, source: Source) -> Ruling
+    requires { ⌜ length (now case) ≡ 88 ⌝ }
+    ensures { λ r. ⌜ r ≡ ruledAt (factsOf (now (case .entry))) way source ⌝ }
 {
-    let trade = f.trade;
+    let trade = record::trade_of(case);
     let execution = trade.price;
-    let request = f.request;
+    let request = record::request_of(case);
     let side = request.side;
     let tp = source.price;
     let minimum = act::minimum_of(way, bands::band_of(tp));
     if bands::in_error(side, execution, tp, minimum) {
-        let buyer = f.buyer;
-        let buyer_kind = buyer.kind;
-        let seller = f.seller;
-        let seller_kind = seller.kind;
-        let customer = parties::any_customer(buyer_kind, seller_kind);
-        return settle(f, way, source, agreement::heed(f.settlement, way, customer));
+        let customer = parties::any_customer(record::buyer_kind(case), record::seller_kind(case));
+        let heeded = agreement::heed(record::settlement_of(case), way, customer);
+        return settle(case, way, source, heeded);
     }
     no_relief(trade, 1, Price::At(tp))
 }
 
 // The theoretical price, then the error; where no one gave a price the case waits.
-fn rule_on(f: Facts, way: Way) -> Ruling
-    ensures { λ r. ⌜ r ≡ ruledOn f way ⌝ }
+fn rule_on(case: &[u8], way: Way) -> Ruling
+    requires { ⌜ length (now case) ≡ 88 ⌝ }
+    ensures { λ r. ⌜ r ≡ ruledOn (factsOf (now (case .entry))) way ⌝ }
 {
-    let trade = f.trade;
-    let request = f.request;
+    let request = record::request_of(case);
     let side = request.side;
-    let found = theory::find_theory(side, f.market);
+    let found = theory::find_theory(side, record::market_of(case));
     let Theory::Found(source) = found else {
-        return wait(trade);
+        return wait(record::trade_of(case));
     };
-    rule_at(f, way, source)
+    rule_at(case, way, source)
 }
 
-fn rule_by(f: Facts, way: Way) -> Ruling
-    ensures { λ r. ⌜ r ≡ ruledBy f way ⌝ }
+fn rule_by(case: &[u8], way: Way) -> Ruling
+    requires { ⌜ length (now case) ≡ 88 ⌝ }
+    ensures { λ r. ⌜ r ≡ ruledBy (factsOf (now (case .entry))) way ⌝ }
 {
     match way {
-        Way::Obvious => rule_on(f, way),
-        Way::Opening => rule_on(f, way),
+        Way::Obvious => rule_on(case, way),
+        Way::Opening => rule_on(case, way),
         Way::Catastrophic => {
-            if f.request.decided {
-                return no_relief(f.trade, 3, Price::None);
+            let request = record::request_of(case);
+            if request.decided {
+                return no_relief(record::trade_of(case), 3, Price::None);
             }
-            rule_on(f, way)
+            rule_on(case, way)
         }
     }
 }
 
-// The ruling on these facts: the way first. In the page's numbers, outcome, price and counts are those of its reason.
-pub fn rule(f: Facts) -> Ruling
-    ensures { λ r. ⌜ (r ≡ rulingOf f) × InNumbers f r ⌝ }
+// The ruling on the facts of a case of 88 bytes: the way first. In the page's numbers, outcome, price and counts are those of its reason.
+pub fn rule(case: &[u8]) -> Ruling
+    requires { ⌜ length (now case) ≡ 88 ⌝ }
+    ensures { λ r. ⌜ (r ≡ rulingOf (factsOf (now (case .entry)))) × InNumbers (factsOf (now (case .entry))) r ⌝ }
 {
-    let trade = f.trade;
+    let trade = record::trade_of(case);
     let executed = trade.executed;
-    let request = f.request;
+    let request = record::request_of(case);
     let side = request.side;
-    let buyer = f.buyer;
-    let buyer_kind = buyer.kind;
-    let seller = f.seller;
-    let seller_kind = seller.kind;
-    let kind = parties::kind_in_error(side, buyer_kind, seller_kind);
+    let buyer = record::buyer_kind(case);
+    let seller = record::seller_kind(case);
+    let kind = parties::kind_in_error(side, buyer, seller);
     match way::find_way(executed, request, kind) {
-        Open::By(way) => rule_by(f, way),
+        Open::By(way) => rule_by(case, way),
         Open::Closed => no_relief(trade, 2, Price::None),
     }
 }

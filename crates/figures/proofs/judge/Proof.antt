@@ -1,75 +1,108 @@
--- A ruling has the outcome of its reason, so the one that the reason decides is the ruling's own.
+-- A ruling has the outcome of its reason, so the one that the reason decides is the ruling's own; price and counts are those of its case.
 use Prim.Native.Nat.{ℕ}
-use mathlib.Core.Path.{_≡_, sym, ap, _∙_}
-use Rattle.facts.specs.declared.Price.{Price}
+use mathlib.Core.Path.{_≡_, refl}
+use mathlib.Core.List.{List}
 use Rattle.facts.specs.Numbers.{priceNumber}
-use Rattle.ruling.specs.declared.Counts.{Counts}
-use Rattle.ruling.specs.Outcomes.{outcomeNumber, newPrice, countsOf}
+use Rattle.record.specs.Record.{factsOf}
+use Rattle.reasons.specs.Reasons.{reasonOutcome}
+use Rattle.ruling.specs.declared.Outcome.{Outcome}
+use Rattle.ruling.specs.Outcomes.{newPrice, countsOf}
+use Rattle.ruling.specs.Numbers.{InNumbers}
 use Rattle.ruling.specs.Ruling.{rulingOf}
-use Rattle.figures.specs.Words.{Ruling}
+use Rattle.figures.specs.Words.{Ruling, Figures}
 use Rattle.figures.specs.Figures.{figuresOf}
 use borrow.Author.Needs.{needs}
 use Rattle.figures.proofs.judge.Statement.{statement}
 use Rattle.figures.proofs.judge.Tie as tie
 
-spelt : (r : Ruling) {counts : Counts} {outcome tp price : ℕ} {new : Price}
-    → counts ≡ countsOf (r .outcome)
-    → outcome ≡ outcomeNumber (r .outcome)
+spelt : (s : List ℕ) (r : Ruling) (o : Outcome) {tp price : ℕ} {n : Figures}
+    → (r ≡ rulingOf (factsOf s)) × InNumbers (factsOf s) r
     → tp ≡ priceNumber (r .tp)
-    → new ≡ newPrice (r .outcome)
-    → price ≡ priceNumber new
-    → record {
+    → r .outcome ≡ o
+    → price ≡ priceNumber (newPrice o)
+    → n
+    ≡ record {
       trade = r .trade;
-      outcome = outcome;
+      outcome = reasonOutcome (r .reason);
       reason = r .reason;
       tp = tp;
       price = price;
-      adjusted = counts .adjusted .0;
-      nullified = counts .nullified .0;
-      standing = counts .standing .0;
+      adjusted = countsOf o .adjusted .0;
+      nullified = countsOf o .nullified .0;
+      standing = countsOf o .standing .0;
     }
-    ≡ figuresOf r
-spelt r counts outcome tp new price = cc
-
-facts-of-requires : tie.Need-facts-of-requires
-facts-of-requires c κs = search needs
+    → n ≡ figuresOf (rulingOf (factsOf s))
+spelt s r o ruled tp case price e = cc (ruled .0, ruled .1 .outcome)
 
 rule-requires : tie.Need-rule-requires
 rule-requires c κs = search needs
 
-counts-of-requires : tie.Need-counts-of-requires
-counts-of-requires c κs = search needs
-
-outcome-of-requires : tie.Need-outcome-of-requires
-outcome-of-requires c κs = search needs
-
 price-number-requires : tie.Need-price-number-requires
 price-number-requires c κs = search needs
-
-new-price-requires : tie.Need-new-price-requires
-new-price-requires c κs = search needs
 
 price-number-requires-2 : tie.Need-price-number-requires-2
 price-number-requires-2 c κs = search needs
 
+enum-known-outcome : tie.Need-enum-known-outcome
+enum-known-outcome c = search needs
+
+spell-requires : tie.Need-spell-requires
+spell-requires c κs = search needs
+
+enum-known-outcome-2 : tie.Need-enum-known-outcome-2
+enum-known-outcome-2 c = search needs
+
+spell-requires-2 : tie.Need-spell-requires-2
+spell-requires-2 c κs = search needs
+
+enum-known-outcome-3 : tie.Need-enum-known-outcome-3
+enum-known-outcome-3 c = search needs
+
+spell-requires-3 : tie.Need-spell-requires-3
+spell-requires-3 c κs = search needs
+
+enum-known-outcome-4 : tie.Need-enum-known-outcome-4
+enum-known-outcome-4 c = search needs
+
+spell-requires-4 : tie.Need-spell-requires-4
+spell-requires-4 c κs = search needs
+
 returns : tie.Need-returns
 returns c =
-    let tp = c .before .before in
-    let counts = tp .before .before in
-    let ruled = counts .before in
-    spelt (ruled .rule .result)
-    (counts .counts-of .ensures) (tp .before .outcome-of .ensures ∙ sym (ruled .rule .ensures .1 .outcome)) (tp .price-number .ensures) (c .before .new-price .ensures) (c .price-number2 .ensures)
-    ∙ ap figuresOf (ruled .rule .ensures .0 ∙ ap rulingOf (ruled .before .facts-of .ensures))
+    let none = c .before .before .before .before in
+    spelt _ _ _ (none .before .before .rule .ensures) (none .before .price-number .ensures) (c .before .before .outcome .given .1) (none .price-number2 .ensures) (c .spell .ensures)
+
+returns-2 : tie.Need-returns-2
+returns-2 c =
+    let none = c .before .before .before .before .before .before in
+    spelt _ _ _ (none .before .before .rule .ensures) (none .before .price-number .ensures) (c .before .before .before .before .outcome2 .given .1) refl (c .spell2 .ensures)
+
+returns-3 : tie.Need-returns-3
+returns-3 c =
+    let none = c .before .before .before .before in
+    spelt _ _ _ (none .before .before .rule .ensures) (none .before .price-number .ensures) (c .before .before .outcome3 .given .1) (none .price-number2 .ensures) (c .spell3 .ensures)
+
+returns-4 : tie.Need-returns-4
+returns-4 c =
+    let none = c .before .before .before .before in
+    spelt _ _ _ (none .before .before .rule .ensures) (none .before .price-number .ensures) (c .before .before .outcome4 .given .1) (none .price-number2 .ensures) (c .spell4 .ensures)
 
 pub judge-spec : {M : Type 1} → statement M
 judge-spec =
     tie.close
     (tie.spec
-    facts-of-requires
     rule-requires
-    counts-of-requires
-    outcome-of-requires
     price-number-requires
-    new-price-requires
     price-number-requires-2
-    returns)
+    enum-known-outcome
+    spell-requires
+    enum-known-outcome-2
+    spell-requires-2
+    enum-known-outcome-3
+    spell-requires-3
+    enum-known-outcome-4
+    spell-requires-4
+    returns
+    returns-2
+    returns-3
+    returns-4)

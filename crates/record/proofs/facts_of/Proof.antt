@@ -12,11 +12,11 @@ market-of-requires c κs = search needs
 request-of-requires : tie.Need-request-of-requires
 request-of-requires c κs = search needs
 
-party-at-requires : tie.Need-party-at-requires
-party-at-requires c κs = search needs
+buyer-of-requires : tie.Need-buyer-of-requires
+buyer-of-requires c κs = search needs
 
-party-at-requires-2 : tie.Need-party-at-requires-2
-party-at-requires-2 c κs = search needs
+seller-of-requires : tie.Need-seller-of-requires
+seller-of-requires c κs = search needs
 
 settlement-of-requires : tie.Need-settlement-of-requires
 settlement-of-requires c κs = search needs
@@ -27,8 +27,8 @@ returns c =
     (c .before .before .before .before .before .trade-of .ensures)
     (c .before .before .before .before .market-of .ensures)
     (c .before .before .before .request-of .ensures)
-    (c .before .before .party-at .ensures)
-    (c .before .party-at2 .ensures)
+    (c .before .before .buyer-of .ensures)
+    (c .before .seller-of .ensures)
     (c .settlement-of .ensures)
 
 pub facts-of-spec : {M : Type 1} → statement M
@@ -38,7 +38,7 @@ facts-of-spec =
     trade-of-requires
     market-of-requires
     request-of-requires
-    party-at-requires
-    party-at-requires-2
+    buyer-of-requires
+    seller-of-requires
     settlement-of-requires
     returns)

@@ -1,15 +1,30 @@
-use mathlib.Core.Path.{_≡_, sym, ap, _∙_}
+use Prim.Native.Nat.{ℕ}
+use mathlib.Core.Path.{_≡_, ap, _∙_}
+use mathlib.Core.List.{List}
+use Rattle.record.specs.Record.{marketOf, requestOf, factsOf}
 use Rattle.theory.specs.Theory.{theoryOf}
-use Rattle.ruling.specs.Ruling.{ruledFrom, ruledOn}
-use Rattle.ruling.specs.Words.{Facts, Way, Theory, Ruling}
+use Rattle.ruling.specs.Words.{Market, Request, Way, Theory, Ruling}
+use Rattle.ruling.specs.Ruling.{waiting, ruledFrom, ruledOn}
 use borrow.Author.Needs.{needs}
 use Rattle.ruling.proofs.rule_on.Statement.{statement}
 use Rattle.ruling.proofs.rule_on.Tie as tie
 
-from : (f : Facts) (way : Way) {found t : Theory} {r : Ruling}
-    → found ≡ theoryOf (f .request .side) (f .market) → found ≡ t → r ≡ ruledFrom f way t → r ≡ ruledOn f way
-unfolding ruledOn
-from f way found case ruled = ruled ∙ ap (ruledFrom f way) (sym case ∙ found)
+from : (s : List ℕ) (way : Way) {request : Request} {market : Market} {found t : Theory} {r : Ruling}
+    → request ≡ requestOf s
+    → market ≡ marketOf s
+    → found ≡ theoryOf (request .side) market
+    → found ≡ t
+    → r ≡ ruledFrom (factsOf s) way t
+    → r ≡ ruledOn (factsOf s) way
+unfolding factsOf ruledOn
+from s way {t = t} request market found case ruled =
+    let e : t ≡ theoryOf (requestOf s .side) (marketOf s) = cc in ruled ∙ ap (ruledFrom (factsOf s) way) e
+
+request-of-requires : tie.Need-request-of-requires
+request-of-requires c κs = search needs
+
+market-of-requires : tie.Need-market-of-requires
+market-of-requires c κs = search needs
 
 find-theory-requires : tie.Need-find-theory-requires
 find-theory-requires c κs = search needs
@@ -20,29 +35,39 @@ enum-known-found c = search needs
 enum-told : tie.Need-enum-told
 enum-told c = search needs
 
+trade-of-requires : tie.Need-trade-of-requires
+trade-of-requires c κs = search needs
+
 wait-requires : tie.Need-wait-requires
 wait-requires c κs = search needs
 
 returns : tie.Need-returns
+unfolding factsOf
 returns c =
-    let a = c .before .before .before .before .before .before .args in
-    from (a .f) (a .way) (c .before .before .before .find-theory .ensures .0) (c .before .enum-told .given .1) (c .wait .ensures)
+    let found = c .before .before .before .before in
+    let market = found .before in
+    from _ _ (market .before .request-of .ensures) (market .market-of .ensures) (found .find-theory .ensures .0) (c .before .before .enum-told .given .1)
+    (c .wait .ensures ∙ ap waiting (c .before .trade-of .ensures))
 
 rule-at-requires : tie.Need-rule-at-requires
 rule-at-requires c κs = search needs
 
 returns-2 : tie.Need-returns-2
 returns-2 c =
-    let a = c .before .before .before .before .before .before .before .args in
-    from (a .f) (a .way) (c .before .before .before .before .find-theory .ensures .0) (c .before .before .found .given .1) (c .rule-at .ensures)
+    let found = c .before .before .before .before in
+    let market = found .before in
+    from _ _ (market .before .request-of .ensures) (market .market-of .ensures) (found .find-theory .ensures .0) (c .before .before .found .given .1) (c .rule-at .ensures)
 
 pub rule-on-spec : {M : Type 1} → statement M
 rule-on-spec =
     tie.close
     (tie.spec
+    request-of-requires
+    market-of-requires
     find-theory-requires
     enum-known-found
     enum-told
+    trade-of-requires
     wait-requires
     returns
     rule-at-requires
