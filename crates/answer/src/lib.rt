@@ -13,9 +13,8 @@ pub fn answer_case(out: &mut [u8], case: &[u8])
     requires { ⌜ (96 ≤ length (now out)) × (length (now case) ≡ 88) ⌝ }
     ensures { λ _. ⌜ now (out .exit) ≡ laid (answerOf (factsOf (now (case .entry)))) (now (out .entry)) ⌝ }
 {
-    let buyer = record::code_at(case, 48);
-    let seller = record::code_at(case, 56);
-    notices::put_answer(out, figures::judge(case), buyer, seller);
+    let n = figures::judge(case);
+    notices::put_answer(out, n, wire::read_u32(case, 48), wire::read_u32(case, 56));
 }
 
 // Rules a case: tests 1, 11, then 2 to 9. Answers the number, 0 where the 96 bytes are written.

@@ -1,39 +1,32 @@
--- Stretches stored one after the other over 32 zeros are the record; a record has 32 bytes, an answer 96.
-use Prim.Native.Nat.{ℕ}
+-- Stretches stored one after the other are the record, with the rest of the buffer as it was; a record has 32 bytes, an answer 96.
+use Prim.Native.Nat.{ℕ, _≤_}
 use mathlib.Core.Path.{_≡_, refl, ap, _∙_}
 use mathlib.Core.List.{List}
-use lib.ListN.{length, replicate}
-use Rattle.wire.specs.Numbers.{elements, stored}
+use lib.ListN.{length}
+use Rattle.wire.specs.Numbers.{bytes, stored}
+use Rattle.wire.specs.Laid.{laid}
+use Rattle.wire.proofs.Laid.{stores}
+use Rattle.wire.proofs.Stored.{next}
 use Rattle.codes.specs.Codes.{sideNumber}
 use Rattle.notices.specs.Words.{Side, Ruling, Figures}
-use Rattle.notices.specs.Records.{startBytes, ruledBytes, rulingRecord, rulingBytes, toldBytes, shownCode, codeBytes, noticeRecord, noticeBytes, answerRecords, answerBytes}
+use Rattle.notices.specs.Records.{startBytes, ruledBytes, rulingRecord, rulingBytes, toldBytes, codeBytes, noticeRecord, noticeBytes, answerRecords, answerBytes}
 
-pub codes-built : (outcome : ℕ) (code other shown o o₁ o₂ : List ℕ)
-    → shown ≡ shownCode outcome other
-    → o₁ ≡ stored o 24 (elements 4 shown 0)
-    → o₂ ≡ stored o₁ 28 (elements 4 code 0)
-    → o₂ ≡ stored o 24 (codeBytes outcome code other)
-codes-built outcome code other shown o o₁ o₂ e first second =
-    second ∙ ap (λ (l : List ℕ). stored l 28 (elements 4 code 0)) (first ∙ ap (λ (l : List ℕ). stored o 24 (elements 4 l 0)) e)
+module _ (n : Figures) (o : List ℕ) (room : 32 ≤ length o) {o₁ o₂ : List ℕ} where
+  pub ruling-written : o₁ ≡ stored o 0 (startBytes 16 n 0) → o₂ ≡ stored o₁ 12 (ruledBytes n) → o₂ ≡ laid (rulingRecord n) o
+  unfolding rulingRecord
+  ruling-written head ruled = stores o₂ (rulingRecord n) o (next 12 (ruledBytes n) ruled head) room
 
-pub ruling-built : (n : Figures) (o₁ o₂ : List ℕ)
-    → o₁ ≡ stored (replicate 32 0) 0 (startBytes 16 n 0)
-    → o₂ ≡ stored o₁ 12 (ruledBytes n)
-    → o₂ ≡ rulingRecord n
-unfolding rulingRecord
-ruling-built n o₁ o₂ head ruled = ruled ∙ ap (λ (l : List ℕ). stored l 12 (ruledBytes n)) head
-
-pub notice-built : (n : Figures) (recipient : Side) (code other : List ℕ) (side : ℕ) (o₁ o₂ o₃ : List ℕ)
-    → side ≡ sideNumber recipient
-    → o₁ ≡ stored (replicate 32 0) 0 (startBytes 17 n side)
-    → o₂ ≡ stored o₁ 12 (toldBytes n)
-    → o₃ ≡ stored o₂ 24 (codeBytes (n .outcome) code other)
-    → o₃ ≡ noticeRecord n recipient code other
-unfolding noticeRecord
-notice-built n recipient code other side o₁ o₂ o₃ s head told codes =
-    codes
-    ∙ ap (λ (l : List ℕ). stored l 24 (codeBytes (n .outcome) code other)) (told ∙ ap (λ (l : List ℕ). stored l 12 (toldBytes n)) head)
-    ∙ rw s
+  pub notice-written : (recipient : Side) (code other : List ℕ) {side : ℕ} {o₃ : List ℕ}
+      → side ≡ sideNumber recipient
+      → o₁ ≡ stored o 0 (startBytes 17 n side)
+      → o₂ ≡ stored o₁ 12 (toldBytes n)
+      → o₃ ≡ stored o₂ 24 (codeBytes (n .outcome) code other)
+      → o₃ ≡ laid (noticeRecord n recipient code other) o
+  unfolding noticeRecord
+  notice-written recipient code other {o₃ = o₃} side head told codes =
+      stores o₃ (noticeRecord n recipient code other) o
+      (next 24 (codeBytes (n .outcome) code other) codes (next 12 (toldBytes n) told (head ∙ ap (λ (b : ℕ). stored o 0 (startBytes 17 n b)) side)))
+      room
 
 pub ruling-length : (r : Ruling) → length (rulingBytes r) ≡ 32
 unfolding rulingRecord

@@ -1,9 +1,9 @@
-// What goes out: the ruling record and the two notices, written as 96 bytes. Nothing is refused here: whoever asks has tested
-// the room. Each record is built aside and copied over its part of the buffer.
+// What goes out: the ruling record and the two notices, written as 96 bytes, each field straight to its place in the lent buffer. Nothing is
+// refused here: whoever asks has tested the room.
 ghost use mathlib.Core.Path.{_≡_};
-ghost use Prim.Native.Nat.{_+_, _≤_};
+ghost use Prim.Native.Nat.{_≤_};
 ghost use lib.ListN.{length};
-ghost use Rattle.wire.specs.Numbers.{elements, stored};
+ghost use Rattle.wire.specs.Numbers.{bytes, stored};
 ghost use Rattle.wire.specs.Laid.{laid};
 ghost use Rattle.notices.specs.Records.{startBytes, ruledBytes, rulingRecord, toldBytes, shows, shownCode, codeBytes, noticeRecord, answerRecords};
 use facts::Side;
@@ -20,13 +20,14 @@ fn shows(outcome: u8) -> bool
     }
 }
 
-fn shown_code(outcome: u8, code: [u8; 4]) -> [u8; 4]
-    ensures { λ r. ⌜ r ≡ shownCode outcome code ⌝ }
+// A member code goes from the record into a notice as the four-byte number that it stands there as, so that no byte of it is handled by itself.
+fn shown_code(outcome: u8, code: u32) -> u32
+    ensures { λ r. ⌜ bytes 4 r ≡ shownCode outcome (bytes 4 code) ⌝ }
 {
     if shows(outcome) {
         return code;
     }
-    [0u8; 4]
+    0
 }
 
 // ---- the stretches of a record
@@ -61,49 +62,38 @@ fn put_told(out: &mut [u8], n: Figures)
     wire::put_u32(out, 20, n.nullified);
 }
 
-fn put_code(out: &mut [u8], at: usize, code: [u8; 4])
-    requires { ⌜ at + 4 ≤ length (now out) ⌝ }
-    ensures { λ _. ⌜ now (out .exit) ≡ stored (now (out .entry)) at (elements 4 code 0) ⌝ }
-{
-    wire::put_four(out, at, code[0], code[1], code[2], code[3]);
-}
-
-fn put_codes(out: &mut [u8], outcome: u8, code: [u8; 4], other: [u8; 4])
+fn put_codes(out: &mut [u8], outcome: u8, code: u32, other: u32)
     requires { ⌜ 32 ≤ length (now out) ⌝ }
-    ensures { λ _. ⌜ now (out .exit) ≡ stored (now (out .entry)) 24 (codeBytes outcome code other) ⌝ }
+    ensures { λ _. ⌜ now (out .exit) ≡ stored (now (out .entry)) 24 (codeBytes outcome (bytes 4 code) (bytes 4 other)) ⌝ }
 {
-    put_code(out, 24, shown_code(outcome, other));
-    put_code(out, 28, code);
+    wire::put_u32(out, 24, shown_code(outcome, other));
+    wire::put_u32(out, 28, code);
 }
 
-// ---- the records, each built aside and copied over the start of its part
+// ---- the records, each over the start of its part
 
 fn put_ruling(out: &mut [u8], n: Figures)
     requires { ⌜ 32 ≤ length (now out) ⌝ }
     ensures { λ _. ⌜ now (out .exit) ≡ laid (rulingRecord n) (now (out .entry)) ⌝ }
 {
-    let mut record = [0u8; 32];
-    put_head(&mut record, 16, n, 0);
-    put_ruled(&mut record, n);
-    bytes::copy(&record, out);
+    put_head(out, 16, n, 0);
+    put_ruled(out, n);
 }
 
-fn put_notice(out: &mut [u8], n: Figures, recipient: Side, code: [u8; 4], other: [u8; 4])
+fn put_notice(out: &mut [u8], n: Figures, recipient: Side, code: u32, other: u32)
     requires { ⌜ 32 ≤ length (now out) ⌝ }
-    ensures { λ _. ⌜ now (out .exit) ≡ laid (noticeRecord n recipient code other) (now (out .entry)) ⌝ }
+    ensures { λ _. ⌜ now (out .exit) ≡ laid (noticeRecord n recipient (bytes 4 code) (bytes 4 other)) (now (out .entry)) ⌝ }
 {
-    let mut record = [0u8; 32];
-    put_head(&mut record, 17, n, codes::side_number(recipient));
-    put_told(&mut record, n);
-    put_codes(&mut record, n.outcome, code, other);
-    bytes::copy(&record, out);
+    put_head(out, 17, n, codes::side_number(recipient));
+    put_told(out, n);
+    put_codes(out, n.outcome, code, other);
 }
 
 // The answer to a case: the ruling record, the buyer's notice, the seller's notice, over the first 96 bytes of the buffer; every
-// byte after them stays.
-pub fn put_answer(out: &mut [u8], n: Figures, buyer: [u8; 4], seller: [u8; 4])
+// byte after them stays. A code is the number that its four bytes are.
+pub fn put_answer(out: &mut [u8], n: Figures, buyer: u32, seller: u32)
     requires { ⌜ 96 ≤ length (now out) ⌝ }
-    ensures { λ _. ⌜ now (out .exit) ≡ laid (answerRecords n buyer seller) (now (out .entry)) ⌝ }
+    ensures { λ _. ⌜ now (out .exit) ≡ laid (answerRecords n (bytes 4 buyer) (bytes 4 seller)) (now (out .entry)) ⌝ }
 {
     put_ruling(out, n);
     put_notice(&mut out[32..], n, Side::Buy, buyer, seller);

@@ -1,8 +1,9 @@
 use Prim.Native.Nat.{ℕ}
-use mathlib.Core.Path.{_≡_}
+use mathlib.Core.Path.{_≡_, ap, _∙_}
 use mathlib.Core.List.{List}
-use Rattle.wire.specs.Numbers.{elements}
+use Rattle.wire.specs.Numbers.{AreBytes, bytes, elements, numberAt}
 use Rattle.wire.specs.Laid.{laid}
+use Rattle.wire.proofs.Numbers.{bytes-number}
 use Rattle.record.specs.Record.{partyAt, factsOf}
 use Rattle.ruling.specs.Ruling.{rulingOf}
 use Rattle.figures.specs.declared.Figures.{Figures}
@@ -13,20 +14,23 @@ use borrow.Author.Needs.{needs}
 use Rattle.answer.proofs.answer_case.Statement.{statement}
 use Rattle.answer.proofs.answer_case.Tie as tie
 
--- The two codes stand at 48 and at 56, in the case and in its facts.
-answered : (s l m buyer seller : List ℕ) (n : Figures) → n ≡ figuresOf (rulingOf (factsOf s)) → buyer ≡ elements 4 s 48 → seller ≡ elements 4 s 56
-    → m ≡ laid (answerRecords n buyer seller) l → m ≡ laid (answerOf (factsOf s)) l
+-- The two codes stand at 48 and at 56, in the case and in its facts; each number that is read there is its four bytes.
+answered : (s l m : List ℕ) (n : Figures) (buyer seller : ℕ) → AreBytes s → n ≡ figuresOf (rulingOf (factsOf s)) → buyer ≡ numberAt 4 s 48 → seller ≡ numberAt 4 s 56
+    → m ≡ laid (answerRecords n (bytes 4 buyer) (bytes 4 seller)) l → m ≡ laid (answerOf (factsOf s)) l
 unfolding answerOf factsOf partyAt
-answered s l m buyer seller n judged bought sold wrote = rw (judged, bought, sold) at wrote
-
-code-at-requires : tie.Need-code-at-requires
-code-at-requires c κs = search needs
-
-code-at-requires-2 : tie.Need-code-at-requires-2
-code-at-requires-2 c κs = search needs
+answered s l m n buyer seller small judged bought sold wrote =
+    let b : bytes 4 buyer ≡ elements 4 s 48 = ap (bytes 4) bought ∙ bytes-number s small 4 48 in
+    let v : bytes 4 seller ≡ elements 4 s 56 = ap (bytes 4) sold ∙ bytes-number s small 4 56 in
+    wrote ∙ cc
 
 judge-requires : tie.Need-judge-requires
 judge-requires c κs = search needs
+
+read-u32-requires : tie.Need-read-u32-requires
+read-u32-requires c κs = search needs
+
+read-u32-requires-2 : tie.Need-read-u32-requires-2
+read-u32-requires-2 c κs = search needs
 
 put-answer-requires : tie.Need-put-answer-requires
 put-answer-requires c κs = search needs
@@ -37,17 +41,18 @@ same-length c = search needs
 returns : tie.Need-returns
 returns c =
     let put = c .before .before in
-    let judge = put .before in
-    let sold = judge .before .before in
-    answered _ _ _ _ _ _ (judge .judge .ensures) (sold .before .code-at .ensures) (sold .code-at2 .ensures) (put .put-answer .ensures)
+    let seller = put .before in
+    let buyer = seller .before in
+    let judge = buyer .before .before in
+    answered _ _ _ _ _ _ (λ i. judge .before .shared-slice-known .given i .fits) (judge .judge .ensures) (buyer .read-u32 .ensures) (seller .read-u322 .ensures) (put .put-answer .ensures)
 
 pub answer-case-spec : {M : Type 1} → statement M
 answer-case-spec =
     tie.close
     (tie.spec
-    code-at-requires
-    code-at-requires-2
     judge-requires
+    read-u32-requires
+    read-u32-requires-2
     put-answer-requires
     same-length
     returns)

@@ -2,6 +2,7 @@
 use mathlib.Core.Path.{refl}
 use mathlib.Core.List.{_++_}
 use denote.Ref.{now}
+use Rattle.wire.specs.Numbers.{bytes}
 use Rattle.wire.proofs.Laid.{laid-part}
 use Rattle.notices.specs.Words.{Buy, Sell}
 use Rattle.notices.specs.Records.{rulingRecord, noticeRecord, answerRecords}
@@ -46,8 +47,8 @@ returns c = let sold = c .before .before in
     let ruling = bought .before .before .before .before in
     let a = ruling .before .before .before .args in
     let r = rulingRecord (a .n) in
-    let b = noticeRecord (a .n) Buy (a .buyer) (a .seller) in
-    let s = noticeRecord (a .n) Sell (a .seller) (a .buyer) in
+    let b = noticeRecord (a .n) Buy (bytes 4 (a .buyer)) (bytes 4 (a .seller)) in
+    let s = noticeRecord (a .n) Sell (bytes 4 (a .seller)) (bytes 4 (a .buyer)) in
     let o = now (a .out) in
     laid-part (r ++ b) s o _ (sold .put-notice2 .last .0) 64
     (laid-part r b o (ruling .put-ruling .last .0) (bought .put-notice .last .0) 32 (ruling .put-ruling .ensures) refl (bought .put-notice .ensures))
