@@ -2,11 +2,27 @@
 // 88 bytes or such a number. Refused with 1 to 9 in reading, 11 and 4 to 9 in writing (3 cannot arise there: the facts'
 // types have no other cases). A refused writing leaves the buffer as it was.
 ghost use mathlib.Core.Path.{_≡_};
-ghost use lib.ListN.{length};
+ghost use lib.ListN.{length, replicate};
 ghost use Rattle.wire.specs.Laid.{laid};
 ghost use Rattle.wire.specs.Numbers.{AreBytes};
+ghost use Rattle.record.specs.Record.{factsOf};
 ghost use Rattle.cases.specs.Cases.{refusalOf, refused, readingOf, writingOf, Held};
+use facts::Agreement;
+use facts::Contracts;
+use facts::Day;
 use facts::Facts;
+use facts::Kind;
+use facts::Market;
+use facts::Mills;
+use facts::Moment;
+use facts::Party;
+use facts::Price;
+use facts::Quote;
+use facts::Request;
+use facts::Seconds;
+use facts::Settlement;
+use facts::Side;
+use facts::Trade;
 
 // The facts where refusal is 0; otherwise the number of the first test that failed, beside fixed facts that nobody uses.
 pub struct Reading {
@@ -14,14 +30,56 @@ pub struct Reading {
     pub facts: Facts,
 }
 
+// What 88 zero bytes say, made without the bytes.
+fn no_facts() -> Facts
+    ensures { λ r. ⌜ r ≡ factsOf (replicate 88 0) ⌝ }
+{
+    let quote = Quote {
+        price: Price::At(Mills(0)),
+        size: Contracts(0),
+    };
+    let party = Party {
+        code: [0u8; 4],
+        limit: Price::At(Mills(0)),
+        kind: Kind::Other,
+    };
+    Facts {
+        trade: Trade {
+            number: 0,
+            price: Mills(0),
+            contracts: Contracts(0),
+            executed: Seconds(0),
+        },
+        market: Market {
+            bid: quote,
+            offer: quote,
+            official: Price::At(Mills(0)),
+        },
+        request: Request {
+            side: Side::Sell,
+            opening: false,
+            expiry: false,
+            decided: false,
+            day: Day::TradeDate,
+            filed: Seconds(0),
+        },
+        buyer: party,
+        seller: party,
+        settlement: Settlement {
+            agreement: Agreement::NotMade,
+            agreed: Price::At(Mills(0)),
+            made: Seconds(0),
+            accepted: Moment::After(Seconds(0)),
+        },
+    }
+}
+
 fn refuse(n: u8) -> Reading
     ensures { λ r. ⌜ r ≡ refused n ⌝ }
 {
-    let zeros = [0u8; 88];
-    let facts = record::facts_of(&zeros);
     Reading {
         refusal: n,
-        facts: facts,
+        facts: no_facts(),
     }
 }
 

@@ -9,15 +9,12 @@ use Rattle.cases.proofs.refuse.Tie as tie
 abbrev refusing : ℕ → Facts → Reading
 refusing n f = record { refusal = n; facts = f }
 
-slice-aggregate-facts-of : tie.Need-slice-aggregate-facts-of
-slice-aggregate-facts-of c = search needs
-
-facts-of-requires : tie.Need-facts-of-requires
-facts-of-requires c κs = search needs
+no-facts-requires : tie.Need-no-facts-requires
+no-facts-requires c κs = search needs
 
 returns : tie.Need-returns
 unfolding refused
-returns c = ap (refusing _) (c .facts-of .ensures)
+returns c = ap (refusing _) (c .no-facts .ensures)
 
 pub refuse-spec : {M : Type 1} → statement M
-refuse-spec = tie.close (tie.spec slice-aggregate-facts-of facts-of-requires returns)
+refuse-spec = tie.close (tie.spec no-facts-requires returns)
