@@ -49,10 +49,16 @@ pub struct DeskBest {
 }
 
 unsafe extern "C" {
-    fn desk_check_case(case: *const u8, len: usize) -> u32;
-    fn desk_rule_case(case: *const u8, len: usize, out: *mut u8, out_len: usize) -> u32;
-    fn desk_rule_sheet(sheet: *const u8, len: usize, out: *mut u8, out_len: usize) -> DeskSheet;
-    fn desk_print_sheet(sheet: *const u8, len: usize, out: *mut [u8; TEXT_BYTES]) -> u64;
+    pub(crate) fn desk_check_case(case: *const u8, len: usize) -> u32;
+    pub(crate) fn desk_rule_case(case: *const u8, len: usize, out: *mut u8, out_len: usize) -> u32;
+    pub(crate) fn desk_rule_sheet(
+        sheet: *const u8,
+        len: usize,
+        out: *mut u8,
+        out_len: usize,
+    ) -> DeskSheet;
+    pub(crate) fn desk_print_sheet(sheet: *const u8, len: usize, out: *mut [u8; TEXT_BYTES])
+        -> u64;
     fn desk_best_quotes(quotes: *const u8, len: usize, trade_time: u32, before: u64) -> DeskBest;
     fn desk_quotes_before(quotes: *const u8, len: usize, trade_time: u32) -> u64;
     fn desk_fill_case(quotes: *const u8, len: usize, record: *mut u8, record_len: usize) -> u32;

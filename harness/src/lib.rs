@@ -32,5 +32,7 @@ pub mod quote_faults;
 pub mod quote_stream;
 pub mod random;
 pub mod settings;
+#[allow(unsafe_code)]
+pub mod stack;
 pub mod stream;
 mod walk_coverage;
