@@ -4,8 +4,8 @@ use mathlib.Core.Path.{_≡_, refl, sym, _∙_}
 use mathlib.Core.List.{List, [], _∷_, _++_, append-assoc}
 use native.Mathlib.Numerals.{add-one}
 use native.Mathlib.Omega.{arith}
-use lib.ListN.{length, set, take, length-append, take-append-drop}
-use lib.Seq.{drop-cons, drop-drop, length-take-le, take-append-seam, drop-append-seam, set-append-seam}
+use lib.ListN.{length, set, take, length-set, length-append, take-append-drop}
+use lib.Seq.{drop-drop, drop-at, length-take-le, take-append-seam, drop-append-seam, take-set-le, set-split}
 use borrow.Rule.Slice.PartMut.{midOf, putMid}
 use Rattle.wire.specs.Laid.{laid}
 use Rattle.wire.proofs.Laid.{laid-part}
@@ -17,25 +17,27 @@ before : (at : ℕ) (l : List ℕ) → at ≤ length l → l ≡ laid (take at l
 unfolding laid
 before at l h = rw (length-take-le at l h, take-append-drop)
 
--- one byte more
-laid-more : (w l m : List ℕ) (k v : ℕ) → m ≡ laid w l → k ≡ length w → length w < length l → set m k v ≡ laid (w ++ (v ∷ [])) l
+-- one byte more: w laid before a byte that is set just after it
+laid-more : (w l : List ℕ) (k v : ℕ) → k ≡ length w → length w < length l → laid w (set l k v) ≡ laid (w ++ (v ∷ [])) l
 unfolding laid
-laid-more w l m k v e f h =
-    rw (e, f, drop-cons l (length w) 0, set-append-seam, length-append, add-one, append-assoc)
+laid-more w l k v e h =
+    let t = length-take-le (length w) l (omega arith) in
+    rw (e, set-split l (length w) v, drop-at (take (length w) l) _ (length w) t, length-append, add-one, append-assoc)
 
--- the first byte at a place, and one byte more after w
+-- a byte at a place, and before a byte that is set the text that ends there
 pub set-first : (at v : ℕ) (l : List ℕ) → at < length l → set l at v ≡ laidAt at (v ∷ []) l
 unfolding laidAt
 set-first at v l h =
     let e = length-take-le at l (omega arith) in
-    laid-more (take at l) l l at v (before at l (omega arith)) (sym e) (omega (arith, e))
+    before at (set l at v) (rw length-set (omega arith))
+    ∙ rw (take-set-le at l at v (omega arith)) (laid-more (take at l) l at v (sym e) (omega (arith, e)))
 
-pub set-next : (at k v : ℕ) (w l m : List ℕ) → m ≡ laidAt at w l → k ≡ at + length w → k < length l → set m k v ≡ laidAt at (w ++ (v ∷ [])) l
+pub set-before : (at k v : ℕ) (w l : List ℕ) → k ≡ at + length w → k < length l → laidAt at w (set l k v) ≡ laidAt at (w ++ (v ∷ [])) l
 unfolding laidAt
-set-next at k v w l m e f h =
+set-before at k v w l e h =
     let t = length-take-le at l (omega arith) in
     let n = length-append (take at l) w in
-    rw (← append-assoc) (laid-more (take at l ++ w) l m k v e (omega (arith, t, n)) (omega (arith, t, n)))
+    rw (take-set-le at l k v (omega arith), ← append-assoc) (laid-more (take at l ++ w) l k v (omega (arith, t, n)) (omega (arith, t, n)))
 
 -- w written into the part from a place on, as the borrow checker lends that part and takes it back
 pub part-laid : (at : ℕ) (w xs ys : List ℕ) → at ≤ length xs → ys ≡ laid w (midOf at (length xs - at) xs) → putMid at (length xs - at) xs ys ≡ laidAt at w xs

@@ -7,18 +7,33 @@ ghost use lib.ListN.{length};
 ghost use Rattle.text.specs.Text.{laidAt, decimalOf, priceText};
 use facts::Price;
 
-// A number in decimal, without leading zeros.
+// How many digits a number has.
+fn decimal_length(mut n: u32) -> usize
+    ensures { λ r. ⌜ (r ≡ length (decimalOf n)) × (r ≤ 10) ⌝ }
+{
+    let mut digits: usize = 1;
+    while 10 <= n {
+        n = n / 10;
+        digits += 1;
+    }
+    digits
+}
+
+// A number in decimal, without leading zeros. The digits are written from the last one on, each before those that stand already.
 pub fn add_decimal(out: &mut [u8], at: usize, n: u32) -> usize
     requires { ⌜ at + 10 ≤ length (now out) ⌝ }
     ensures { λ r. ⌜ (r ≡ at + length (decimalOf n)) × (now (out .exit) ≡ laidAt at (decimalOf n) (now (out .entry))) × (r ≤ at + 10) ⌝ }
 {
-    if n < 10 {
-        out[at] = 48 + (n as u8);
-        return at + 1;
+    let digits = decimal_length(n);
+    let mut place = at + digits;
+    let mut rest = n;
+    while 10 <= rest {
+        place -= 1;
+        out[place] = 48 + (rest % 10) as u8;
+        rest = rest / 10;
     }
-    let next = add_decimal(out, at, n / 10);
-    out[next] = 48 + (n % 10) as u8;
-    next + 1
+    out[at] = 48 + (rest as u8);
+    at + digits
 }
 
 // A fixed byte string.
