@@ -1,5 +1,6 @@
 // The report of a sheet: what the printer writes, as bytes in a lent buffer. A sheet of whole cases, 600 at most, has the header, a line for
-// each case and END; any other has the one line that refuses it, with 10. Nothing is asked: the buffer holds the longest report.
+// each case and END; any other has the one line that refuses it, with 10. Nothing is asked: the buffer holds the longest report, or, where
+// the report is taken piece by piece, the longest line.
 ghost use mathlib.Core.Path.{_≡_};
 ghost use Prim.Native.Nat.{_*_, _≤_};
 ghost use lib.ListN.{length, take};
@@ -7,6 +8,7 @@ ghost use Rattle.wire.specs.Laid.{laid, row};
 ghost use Rattle.cases.specs.Cases.{readingOf};
 ghost use Rattle.sheet.specs.Sheet.{casesIn, ruledOne, ruledIn};
 ghost use Rattle.report.specs.Report.{caseLine, lineOf, ruledText, textOf};
+ghost use Rattle.report.specs.Pieces.{ruledPiece, pieceOf};
 
 // What has been printed: how many bytes, and how many cases were ruled.
 struct Printed {
@@ -73,4 +75,64 @@ pub fn print_sheet(sheet: &[u8], out: &mut [u8; 65536]) -> usize
         return put_whole(sheet, out);
     }
     lines::put_sheet(out, 10)
+}
+
+// ---- piece by piece, with no room for more than a line: nothing is carried from one call to the next
+
+// How a case counts: 1 if it is ruled.
+fn ruled_one(case: &[u8]) -> usize
+    ensures { λ r. ⌜ r ≡ ruledOne (readingOf (now (case .entry))) ⌝ }
+{
+    if cases::check_case(case) == 0 { 1 } else { 0 }
+}
+
+// How many cases are ruled.
+fn count_ruled(sheet: &[u8]) -> usize
+    ensures { λ r. ⌜ (r ≡ ruledIn (now (sheet .entry)) (casesIn (now (sheet .entry)))) × (r ≤ casesIn (now (sheet .entry))) ⌝ }
+{
+    let n = sheet.len() / 88;
+    let mut i: usize = 0;
+    let mut ruled: usize = 0;
+    while i < n {
+        let from = i * 88;
+        ruled += ruled_one(&sheet[from..from + 88]);
+        i += 1;
+    }
+    ruled
+}
+
+// A piece of a sheet of whole cases: the header, a case's line, END, or nothing.
+fn put_piece(sheet: &[u8], k: usize, out: &mut [u8]) -> usize
+    requires { ⌜ (length (now sheet) ≤ 52800) × (85 ≤ length (now out)) ⌝ }
+    ensures { λ r. ⌜ (r ≡ length (ruledPiece (now (sheet .entry)) (casesIn (now (sheet .entry))) k)) × (now (out .exit) ≡ laid (ruledPiece (now (sheet .entry)) (casesIn (now (sheet .entry))) k) (now (out .entry))) ⌝ }
+{
+    if k == 0 {
+        return lines::put_header(out);
+    }
+    let i = k - 1;
+    let n = sheet.len() / 88;
+    if i < n {
+        let from = i * 88;
+        let p = put_case(&sheet[from..from + 88], i as u32, out);
+        return p.bytes;
+    }
+    if i == n {
+        let ruled = count_ruled(sheet);
+        return lines::put_end(out, ruled as u32, (n - ruled) as u32);
+    }
+    0
+}
+
+// Prints piece k of a sheet over the start of the buffer; every byte after it stays. Answers how many bytes it has: 0 after the last.
+pub fn print_piece(sheet: &[u8], k: usize, out: &mut [u8; 85]) -> usize
+    ensures { λ r. ⌜ (r ≡ length (pieceOf (now (sheet .entry)) k)) × (now (out .exit) ≡ laid (pieceOf (now (sheet .entry)) k) (now (out .entry))) ⌝ }
+    ensures { λ r. ⌜ (r ≤ length (now (out .exit))) × (r ≡ length (take r (now (out .exit)))) ⌝ }
+{
+    if sheet::whole_cases(sheet) {
+        return put_piece(sheet, k, out);
+    }
+    if k == 0 {
+        return lines::put_sheet(out, 10);
+    }
+    0
 }

@@ -62,7 +62,7 @@ module _ (f : ℕ → Reading → List ℕ) (m : ℕ) where
       record { within = omega arith; ran = row-start (added s) out; counted = refl; most = zero-le; few = omega arith; same = refl }
 
 -- the part of the sheet that is lent for a turn is case i
-lent : (s : List ℕ) (i : ℕ) → take (i * 88 + 88 - i * 88) (drop (i * 88) s) ≡ caseAt s i
+pub lent : (s : List ℕ) (i : ℕ) → take (i * 88 + 88 - i * 88) (drop (i * 88) s) ≡ caseAt s i
 unfolding caseAt
 lent s i = rw (add-sub-cancel-left (i * 88) 88)
 
