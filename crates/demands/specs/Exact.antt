@@ -318,6 +318,9 @@ put-sheet-exact = lines.Exact.put-sheet-exact
 pub print-sheet-exact : (κs : Lfts 2) → ExactIn (λ a. a .1 .0) (report.print_sheet.Reads.Post κs)
 print-sheet-exact = report.Exact.print-sheet-exact
 
+pub print-piece-exact : (κs : Lfts 2) → ExactIn (λ a. a .1 .1 .0) (report.print_piece.Reads.Post κs)
+print-piece-exact = report.Exact.print-piece-exact
+
 -- ---- spelling
 pub read-time-exact : (κs : Lfts 1) → Exact (spelling.read_time.Reads.Post κs)
 read-time-exact = spelling.Exact.read-time-exact

@@ -6,6 +6,7 @@ pub mod RoundTrips
 pub mod Demand3
 pub mod Laws
 pub mod Sheets
+pub mod Pieces
 pub mod Quotes
 pub mod Counted
 pub mod Filled
