@@ -6,7 +6,7 @@ use mathlib.Core.Logic.{_⊎_, inl, inr}
 use mathlib.Core.List.{List, [], _∷_, _++_, append-assoc}
 use native.Mathlib.Omega.{arith}
 use lib.ListN.{length, take, drop, length-append}
-use lib.Seq.{take-at}
+use lib.Seq.{take-at, take-append-seam}
 use lib.Dec.{leb, eqb}
 use borrow.Author.Tests.{leb-true, le-leb, eq-eqb, eqb-true, eqb-false}
 use Rattle.wire.specs.Laid.{laid, row}
@@ -91,6 +91,11 @@ write-fits f room e = leb-true 88 room (none-fails (leb 88 room) 11 _ tt e .0)
 
 pub record-length : (f : Facts) → length (recordBytes f) ≡ 88
 record-length f = refl
+
+-- of what is laid over a buffer, the first so many bytes are what was written
+pub laid-taken : (n : ℕ) (w l m : List ℕ) → (n ≡ length w) × (m ≡ laid w l) → take n m ≡ w
+unfolding laid
+laid-taken n w l m e = rw (e .1, e .0, take-append-seam)
 
 -- the bytes that a call leaves where it rules
 pub ruled-bytes : (s l m : List ℕ) (n : ℕ) → (n ≡ caseOf s (length l) .0) × (m ≡ laid (caseOf s (length l) .1) l) → n ≡ 0 → take 96 m ≡ answerOf (factsOf s)
