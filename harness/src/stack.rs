@@ -6,7 +6,7 @@ use std::arch::asm;
 
 use crate::desk::{self, DeskSheet, TEXT_BYTES};
 
-/// More than any call takes, so that a call that takes too much is told and does no harm.
+/// More than any call takes, by far: below it nothing guards the memory of others.
 const ROOM: usize = 1 << 16;
 
 const PATTERN: u64 = 0x5aa5_a55a_5aa5_a55a;
@@ -14,31 +14,42 @@ const PATTERN: u64 = 0x5aa5_a55a_5aa5_a55a;
 /// The words of the arguments, in the order in which C's calling form has them in registers.
 type Words = [usize; 5];
 
-/// A stack to measure on.
-pub struct Stack {
-    // By twos, since the calling form asks for a multiple of 16 bytes.
-    words: Vec<[u64; 2]>,
+/// What a call answered, and the bytes of stack that it took.
+pub struct Taken<Answer> {
+    pub answer: Answer,
+    pub bytes: usize,
 }
+
+/// Two words: the calling form asks for a stack that ends at a multiple of 16 bytes.
+#[derive(Clone, Copy, PartialEq)]
+#[repr(align(16))]
+struct Pair([u64; 2]);
+
+/// A stack to measure on.
+pub struct Stack(Vec<Pair>);
 
 impl Default for Stack {
     fn default() -> Stack {
-        Stack {
-            words: vec![[PATTERN; 2]; ROOM / 16],
-        }
+        Stack(vec![Pair([PATTERN; 2]); ROOM / size_of::<Pair>()])
     }
 }
 
 impl Stack {
-    /// The bytes that testing the case takes.
-    pub fn check_case(&mut self, case: &[u8]) -> usize {
+    /// Tests the case.
+    pub fn check_case(&mut self, case: &[u8]) -> Taken<u32> {
         let words = [case.as_ptr() as usize, case.len(), 0, 0, 0];
         // SAFETY: `desk_check_case` takes a pointer and a length, those of one live slice, which
         // is only read.
-        unsafe { self.taken_by(desk::desk_check_case as *const () as usize, words) }
+        let (answer, bytes) =
+            unsafe { self.call(desk::desk_check_case as *const () as usize, words) };
+        Taken {
+            answer: answer as u32,
+            bytes,
+        }
     }
 
-    /// The bytes that ruling the case takes.
-    pub fn rule_case(&mut self, case: &[u8], out: &mut [u8]) -> usize {
+    /// Rules the case into `out`.
+    pub fn rule_case(&mut self, case: &[u8], out: &mut [u8]) -> Taken<u32> {
         let words = [
             case.as_ptr() as usize,
             case.len(),
@@ -48,11 +59,16 @@ impl Stack {
         ];
         // SAFETY: `desk_rule_case` takes two pointers with a length each, those of two live slices;
         // `out` is lent exclusively, so the two do not overlap.
-        unsafe { self.taken_by(desk::desk_rule_case as *const () as usize, words) }
+        let (answer, bytes) =
+            unsafe { self.call(desk::desk_rule_case as *const () as usize, words) };
+        Taken {
+            answer: answer as u32,
+            bytes,
+        }
     }
 
-    /// The bytes that ruling the sheet takes.
-    pub fn rule_sheet(&mut self, sheet: &[u8], out: &mut [u8]) -> usize {
+    /// Rules the sheet into `out`.
+    pub fn rule_sheet(&mut self, sheet: &[u8], out: &mut [u8]) -> Taken<DeskSheet> {
         let mut answer = DeskSheet {
             refusal: 0,
             written: 0,
@@ -60,18 +76,19 @@ impl Stack {
             refused: 0,
         };
         let words = [
-            &mut answer as *mut DeskSheet as usize,
+            &raw mut answer as usize,
             sheet.as_ptr() as usize,
             sheet.len(),
             out.as_mut_ptr() as usize,
             out.len(),
         ];
         // SAFETY: as for a case; the struct of 32 bytes is given back by the pointer in front.
-        unsafe { self.taken_by(desk::desk_rule_sheet as *const () as usize, words) }
+        let (_, bytes) = unsafe { self.call(desk::desk_rule_sheet as *const () as usize, words) };
+        Taken { answer, bytes }
     }
 
-    /// The bytes that printing the sheet takes.
-    pub fn print_sheet(&mut self, sheet: &[u8], out: &mut [u8; TEXT_BYTES]) -> usize {
+    /// Prints the sheet into `out`.
+    pub fn print_sheet(&mut self, sheet: &[u8], out: &mut [u8; TEXT_BYTES]) -> Taken<u64> {
         let words = [
             sheet.as_ptr() as usize,
             sheet.len(),
@@ -81,20 +98,29 @@ impl Stack {
         ];
         // SAFETY: `desk_print_sheet` takes a pointer and a length, those of one live slice, and a
         // pointer to an array of the declared size, lent exclusively.
-        unsafe { self.taken_by(desk::desk_print_sheet as *const () as usize, words) }
+        let (answer, bytes) =
+            unsafe { self.call(desk::desk_print_sheet as *const () as usize, words) };
+        Taken { answer, bytes }
     }
 
+    /// What the function leaves in the register for an answer, and the bytes that it took.
+    ///
     /// # Safety
     ///
     /// The function takes the words in C's calling form.
-    unsafe fn taken_by(&mut self, function: usize, words: Words) -> usize {
-        self.words.fill([PATTERN; 2]);
-        // SAFETY: the stack is empty, and nobody else has it; the caller answers for the words.
-        unsafe { call_on(self.words.as_mut_ptr_range().end, function, words) };
-        let stack = self.words.as_flattened();
-        let kept = stack.iter().take_while(|&&word| word == PATTERN).count();
+    unsafe fn call(&mut self, function: usize, words: Words) -> (u64, usize) {
+        let Stack(pairs) = self;
+        pairs.fill(Pair([PATTERN; 2]));
+        // SAFETY: the stack is empty, nobody else has it, and its end is that of a `Pair`; the
+        // caller answers for the words.
+        let answer = unsafe { call_on(pairs.as_mut_ptr_range().end, function, words) };
+        let kept = pairs
+            .iter()
+            .flat_map(|&Pair(words)| words)
+            .take_while(|&word| word == PATTERN)
+            .count();
         assert!(kept > 0, "the call took the whole stack");
-        (stack.len() - kept) * 8
+        (answer, ROOM - kept * size_of::<u64>())
     }
 }
 
@@ -104,7 +130,8 @@ impl Stack {
 ///
 /// The function takes the words in C's calling form. `top` is a multiple of 16, and below it are
 /// more bytes than the function takes.
-unsafe fn call_on(top: *mut [u64; 2], function: usize, words: Words) {
+unsafe fn call_on(top: *mut Pair, function: usize, words: Words) -> u64 {
+    let answer;
     // The registers that a function must keep are 0 at the call: what it saves of them could else
     // be the very pattern, and look like a word that was not touched.
     // SAFETY: each of those registers is put back, and every other that a call may change is named.
@@ -130,7 +157,7 @@ unsafe fn call_on(top: *mut [u64; 2], function: usize, words: Words) {
             "pop rbp",
             "pop rbx",
             top = in(reg) top,
-            in("rax") function,
+            inout("rax") function as u64 => answer,
             in("rdi") words[0],
             in("rsi") words[1],
             in("rdx") words[2],
@@ -140,4 +167,5 @@ unsafe fn call_on(top: *mut [u64; 2], function: usize, words: Words) {
             clobber_abi("C"),
         );
     }
+    answer
 }

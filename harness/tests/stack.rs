@@ -2,11 +2,13 @@
 //! those that were measured, with the room of two or three saved registers above them, so that none
 //! can creep up unseen. They hold for the code that this kit's compiler makes of it.
 
-use harness::desk::{ANSWER_BYTES, CASE_BYTES, TEXT_BYTES};
+use std::collections::BTreeSet;
+
+use harness::desk::{self, ANSWER_BYTES, CASE_BYTES, TEXT_BYTES};
 use harness::mixture::Mixture;
 use harness::random::Random;
 use harness::settings;
-use harness::stack::Stack;
+use harness::stack::{Stack, Taken};
 
 const CASES: usize = 600;
 const SHEETS: usize = 20;
@@ -27,8 +29,10 @@ impl Call {
         }
     }
 
-    fn took(&mut self, bytes: usize) {
-        self.taken = self.taken.max(bytes);
+    /// The answer must be the one that the same call gives on the caller's own stack.
+    fn took<T: PartialEq + std::fmt::Debug>(&mut self, call: Taken<T>, answer: T) {
+        assert_eq!(call.answer, answer, "{}", self.name);
+        self.taken = self.taken.max(call.bytes);
     }
 }
 
@@ -42,26 +46,61 @@ fn little_stack() {
     let mut random = Random::new(settings::seed());
     let mixture = Mixture::default();
     let mut stack = Stack::default();
-    let mut out = vec![0; CASES * ANSWER_BYTES];
-    let mut text = [0; TEXT_BYTES];
+    let (mut out, mut out_too) = (vec![0; CASES * ANSWER_BYTES], vec![0; CASES * ANSWER_BYTES]);
+    let (mut text, mut text_too) = ([0; TEXT_BYTES], [0; TEXT_BYTES]);
+    let (mut refusals, mut reasons) = (BTreeSet::new(), BTreeSet::new());
     for _ in 0..SHEETS {
         let cases: Vec<_> = (0..CASES).map(|_| mixture.record(&mut random)).collect();
         for case in &cases {
-            check_case.took(stack.check_case(case));
-            rule_case.took(stack.rule_case(case, &mut out));
+            let refusal = desk::check_case(case);
+            check_case.took(stack.check_case(case), refusal);
+            rule_case.took(
+                stack.rule_case(case, &mut out),
+                desk::rule_case(case, &mut out_too),
+            );
+            refusals.insert(refusal);
+            if refusal == 0 {
+                reasons.insert(out[9]);
+            }
         }
         let sheet = cases.as_flattened();
-        rule_sheet.took(stack.rule_sheet(sheet, &mut out));
-        print_sheet.took(stack.print_sheet(sheet, &mut text));
+        rule_sheet.took(
+            stack.rule_sheet(sheet, &mut out),
+            desk::rule_sheet(sheet, &mut out_too),
+        );
+        print_sheet.took(
+            stack.print_sheet(sheet, &mut text),
+            desk::print_sheet(sheet, &mut text_too),
+        );
+        assert!(out == out_too && text == text_too, "the buffers");
     }
+    // Every way through a ruling was gone; no accepted case has reason 4.
+    assert_eq!(
+        refusals,
+        [0, 2, 3, 4, 5, 6, 7, 8, 9].into(),
+        "the refusals that were met"
+    );
+    assert_eq!(
+        reasons,
+        (1..=14).filter(|&reason| reason != 4).collect(),
+        "the reasons that were met"
+    );
+
     // Refused whole, or for want of room: no deeper.
     let ragged = &[0; CASE_BYTES * 2 + 1];
-    check_case.took(stack.check_case(ragged));
-    rule_case.took(stack.rule_case(ragged, &mut out));
-    rule_case.took(stack.rule_case(&ragged[..CASE_BYTES], &mut out[..ANSWER_BYTES - 1]));
-    rule_sheet.took(stack.rule_sheet(ragged, &mut out));
-    rule_sheet.took(stack.rule_sheet(&ragged[..CASE_BYTES], &mut out[..ANSWER_BYTES - 1]));
-    print_sheet.took(stack.print_sheet(ragged, &mut text));
+    let short = &mut out[..ANSWER_BYTES - 1];
+    check_case.took(stack.check_case(ragged), 1);
+    rule_case.took(stack.rule_case(ragged, short), 1);
+    rule_case.took(stack.rule_case(&ragged[..CASE_BYTES], short), 11);
+    let refused = |refusal| desk::DeskSheet {
+        refusal,
+        written: 0,
+        ruled: 0,
+        refused: 0,
+    };
+    rule_sheet.took(stack.rule_sheet(ragged, short), refused(10));
+    rule_sheet.took(stack.rule_sheet(&ragged[..CASE_BYTES], short), refused(11));
+    print_sheet.took(stack.print_sheet(ragged, &mut text), 17);
 
     for call in [&check_case, &rule_case, &rule_sheet, &print_sheet] {
         println!(

@@ -34,7 +34,7 @@ use Rattle.desk.proofs as desk
 use Rattle.demands.specs.Ends.{readNumbers, writeNumbers, caseNumbers, Told, Answered, Ended, SheetAnswered, SheetEnded, Entered}
 use Rattle.demands.specs.Why as why
 
--- No caller tests anything first: whatever they are given, the entry points ask nothing beyond their types (the printer's buffer has 65,536
+-- No caller tests anything first: whatever they are given, the entry points ask nothing beyond their types (the buffer of `print_sheet` has 65,536
 -- bytes by its type).
 pub nothing-asked : (κ : Lfts 1) (κs : Lfts 2) (s b : RefT (List ℕ)) (f : Facts)
     → cases.check_case.Reads.Asked κ (s, tt)
@@ -136,7 +136,7 @@ header-first = why.header-first
 pub empty-report : textOf [] ≡ letters "TRADE OUTCOME REASON TP NEW ADJ NUL OLD" ++ (10 ∷ []) ++ letters "END 0 0" ++ (10 ∷ [])
 empty-report = why.empty-report
 
--- No text is longer than the printer's buffer of 65,536 bytes.
+-- No text is longer than the 65,536 bytes of `print_sheet`'s buffer.
 pub text-fits : (s : List ℕ) → length (textOf s) ≤ 65536
 text-fits = why.text-fits
 

@@ -2,6 +2,7 @@
 use Prim.Native.Nat.{ℕ, _≤_, _<_}
 use mathlib.Core.Path.{_≡_, sym, _∙_}
 use mathlib.Core.List.{List, []}
+use native.Mathlib.Omega.{arith}
 use lib.ListN.{length, take}
 use contract.Lifetimes.{Lfts}
 use denote.Ref.{RefT, now}
@@ -40,11 +41,12 @@ pub print-piece-says : (κs : Lfts 2) (s s' out out' : RefT (List ℕ)) (k k' r 
     → (r ≡ length (pieceOf (now s) k)) × (r ≤ 85) × (now out' ≡ laid (pieceOf (now s) k) (now out))
 print-piece-says κs s s' out out' k k' r p = (p .0 .0, rw (p .0 .0) (piece-fits (now s) k), p .0 .1)
 
--- And any calls for piece 0, piece 1 and so on, whatever the buffers hold before: where one answers 0, what the calls before it answered with and
--- wrote, one after the other, is the report.
-pub calls-until-empty : (κs : Lfts 2) (s : RefT (List ℕ)) (s' out out' : ℕ → RefT (List ℕ)) (k' r : ℕ → ℕ)
-    → ((k : ℕ) → report.print_piece.Reads.Post κs (s, (k, (out k, tt))) (r k) (s' k, (k' k, (out' k, tt))))
-    → (n : ℕ) → r n ≡ 0 → row (λ k. take (r k) (now (out' k))) n ≡ textOf (now s)
-calls-until-empty κs s s' out out' k' r calls n e =
-    row-same (λ k. take (r k) (now (out' k))) (pieceOf (now s)) n (λ k _. why.laid-taken (r k) (pieceOf (now s) k) (now (out k)) (now (out' k)) (calls k .0))
-    ∙ until-empty (now s) n (sym (calls n .0 .0) ∙ e)
+-- And every run of calls on one sheet, for piece 0 to piece n, whatever the buffers hold before: where the last answers 0, what the calls before
+-- it wrote, as many bytes as each answered, is the report.
+pub calls-until-empty : (sheet : List ℕ) (n : ℕ) (κs : ℕ → Lfts 2) (s s' out out' : ℕ → RefT (List ℕ)) (k' r : ℕ → ℕ)
+    → ((k : ℕ) → k ≤ n → (now (s k) ≡ sheet) × report.print_piece.Reads.Post (κs k) (s k, (k, (out k, tt))) (r k) (s' k, (k' k, (out' k, tt))))
+    → r n ≡ 0 → row (λ k. take (r k) (now (out' k))) n ≡ textOf sheet
+calls-until-empty sheet n κs s s' out out' k' r calls e =
+    let said : (k : ℕ) → k ≤ n → (r k ≡ length (pieceOf sheet k)) × (now (out' k) ≡ laid (pieceOf sheet k) (now (out k))) = λ k l. rw (calls k l .0) at (calls k l .1 .0) in
+    row-same (λ k. take (r k) (now (out' k))) (pieceOf sheet) n (λ k l. why.laid-taken (r k) (pieceOf sheet k) (now (out k)) (now (out' k)) (said k (omega arith)))
+    ∙ until-empty sheet n (sym (said n (omega arith) .0) ∙ e)

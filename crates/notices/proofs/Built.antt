@@ -3,7 +3,7 @@ use Prim.Native.Nat.{ℕ, _≤_}
 use mathlib.Core.Path.{_≡_, refl, ap, _∙_}
 use mathlib.Core.List.{List}
 use lib.ListN.{length}
-use Rattle.wire.specs.Numbers.{bytes, stored}
+use Rattle.wire.specs.Numbers.{stored}
 use Rattle.wire.specs.Laid.{laid}
 use Rattle.wire.proofs.Laid.{stores}
 use Rattle.wire.proofs.Stored.{next}

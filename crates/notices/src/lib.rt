@@ -3,7 +3,7 @@
 ghost use mathlib.Core.Path.{_≡_};
 ghost use Prim.Native.Nat.{_≤_};
 ghost use lib.ListN.{length};
-ghost use Rattle.wire.specs.Numbers.{bytes, stored};
+ghost use Rattle.wire.specs.Numbers.{bytes, elements, stored};
 ghost use Rattle.wire.specs.Laid.{laid};
 ghost use Rattle.notices.specs.Records.{startBytes, ruledBytes, rulingRecord, toldBytes, shows, shownCode, codeBytes, noticeRecord, answerRecords};
 use facts::Side;
@@ -18,16 +18,6 @@ fn shows(outcome: u8) -> bool
         1..=2 => true,
         _ => false,
     }
-}
-
-// A member code goes from the record into a notice as the four-byte number that it stands there as, so that no byte of it is handled by itself.
-fn shown_code(outcome: u8, code: u32) -> u32
-    ensures { λ r. ⌜ bytes 4 r ≡ shownCode outcome (bytes 4 code) ⌝ }
-{
-    if shows(outcome) {
-        return code;
-    }
-    0
 }
 
 // ---- the stretches of a record
@@ -62,11 +52,24 @@ fn put_told(out: &mut [u8], n: Figures)
     wire::put_u32(out, 20, n.nullified);
 }
 
+// A member code goes from the record into a notice as the four-byte number that it stands there as. Where it is not shown zeros are written, since
+// the buffer is lent with anything in it.
+fn put_shown(out: &mut [u8], outcome: u8, other: u32)
+    requires { ⌜ 32 ≤ length (now out) ⌝ }
+    ensures { λ _. ⌜ now (out .exit) ≡ stored (now (out .entry)) 24 (elements 4 (shownCode outcome (bytes 4 other)) 0) ⌝ }
+{
+    if shows(outcome) {
+        wire::put_u32(out, 24, other);
+        return;
+    }
+    wire::put_u32(out, 24, 0);
+}
+
 fn put_codes(out: &mut [u8], outcome: u8, code: u32, other: u32)
     requires { ⌜ 32 ≤ length (now out) ⌝ }
     ensures { λ _. ⌜ now (out .exit) ≡ stored (now (out .entry)) 24 (codeBytes outcome (bytes 4 code) (bytes 4 other)) ⌝ }
 {
-    wire::put_u32(out, 24, shown_code(outcome, other));
+    put_shown(out, outcome, other);
     wire::put_u32(out, 28, code);
 }
 

@@ -51,7 +51,7 @@ fn write_line(to: i32, line: &[u8]) -> bool {
 fn write_report(sheet: &[u8]) -> bool {
     let mut line = [0u8; 85];
     let mut k: usize = 0;
-    while k < 602 {
+    loop {
         let n = report::print_piece(sheet, k, &mut line);
         if n == 0 {
             return true;
@@ -61,7 +61,6 @@ fn write_report(sheet: &[u8]) -> bool {
         }
         k += 1;
     }
-    true
 }
 
 fn main() {

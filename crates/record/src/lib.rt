@@ -40,7 +40,7 @@ fn party_at(s: &[u8], at: usize, kind_at: usize) -> Party
     }
 }
 
-// The trade.
+// The trade: number, price, contracts, time of execution.
 pub fn trade_of(s: &[u8]) -> Trade
     requires { ⌜ length (now s) ≡ 88 ⌝ }
     ensures { λ r. ⌜ r ≡ tradeOf (now (s .entry)) ⌝ }
@@ -53,7 +53,7 @@ pub fn trade_of(s: &[u8]) -> Trade
     }
 }
 
-// The market's quotes and the official's price.
+// The market: bid and offer with their sizes, and the official's price.
 pub fn market_of(s: &[u8]) -> Market
     requires { ⌜ length (now s) ≡ 88 ⌝ }
     ensures { λ r. ⌜ r ≡ marketOf (now (s .entry)) ⌝ }
@@ -73,7 +73,7 @@ pub fn market_of(s: &[u8]) -> Market
     }
 }
 
-// The request.
+// The request: side in error, the three flags, day and time of filing.
 pub fn request_of(s: &[u8]) -> Request
     requires { ⌜ length (now s) ≡ 88 ⌝ }
     ensures { λ r. ⌜ r ≡ requestOf (now (s .entry)) ⌝ }
@@ -88,7 +88,7 @@ pub fn request_of(s: &[u8]) -> Request
     }
 }
 
-// The buyer's kind.
+// The kind by itself, for the steps that ask no more of a party.
 pub fn buyer_kind(s: &[u8]) -> Kind
     requires { ⌜ length (now s) ≡ 88 ⌝ }
     ensures { λ r. ⌜ r ≡ partyAt (now (s .entry)) 48 64 .kind ⌝ }
@@ -96,7 +96,6 @@ pub fn buyer_kind(s: &[u8]) -> Kind
     codes::kind_of(s[64])
 }
 
-// The seller's kind.
 pub fn seller_kind(s: &[u8]) -> Kind
     requires { ⌜ length (now s) ≡ 88 ⌝ }
     ensures { λ r. ⌜ r ≡ partyAt (now (s .entry)) 56 65 .kind ⌝ }
@@ -104,7 +103,7 @@ pub fn seller_kind(s: &[u8]) -> Kind
     codes::kind_of(s[65])
 }
 
-// The buyer.
+// A party with its code, its limit and its kind.
 pub fn buyer_of(s: &[u8]) -> Party
     requires { ⌜ length (now s) ≡ 88 ⌝ }
     ensures { λ r. ⌜ r ≡ partyAt (now (s .entry)) 48 64 ⌝ }
@@ -112,7 +111,6 @@ pub fn buyer_of(s: &[u8]) -> Party
     party_at(s, 48, 64)
 }
 
-// The seller.
 pub fn seller_of(s: &[u8]) -> Party
     requires { ⌜ length (now s) ≡ 88 ⌝ }
     ensures { λ r. ⌜ r ≡ partyAt (now (s .entry)) 56 65 ⌝ }
@@ -120,7 +118,7 @@ pub fn seller_of(s: &[u8]) -> Party
     party_at(s, 56, 65)
 }
 
-// What the parties settled after notice.
+// What the parties settled after notice: the agreement, its price and seconds, the acceptance.
 pub fn settlement_of(s: &[u8]) -> Settlement
     requires { ⌜ length (now s) ≡ 88 ⌝ }
     ensures { λ r. ⌜ r ≡ settlementOf (now (s .entry)) ⌝ }

@@ -154,6 +154,13 @@ module _ (s : List ℕ) where
       (λ h. piece-whole s h k ∙ ruled-piece-past s (casesIn s) k (omega (arith, pieces-whole s h)))
       (λ h. piece-refused s h k ∙ refused-piece-past k (omega (arith, pieces-refused s h)))
 
+  -- a piece that is not empty is one of those that there are at most: whoever goes on to the next one comes to an end
+  pub piece-within : (k r : ℕ) → r ≡ length (pieceOf s k) → (r ≡ 0 → ⊥) → k < mostPieces
+  piece-within k r e some = by-test (ltb k mostPieces) refl where
+    by-test : (b : Bool) → ltb k mostPieces ≡ b → k < mostPieces
+    by-test true t = ltb-true k mostPieces t
+    by-test false t = absurd (some (e ∙ ap length (piece-past k (omega (arith, pieces-most, ltb-false k mostPieces t)))))
+
   -- as many pieces as there are, or more, are the text
   pub enough-pieces : (k : ℕ) → piecesIn s ≤ k → row (pieceOf s) k ≡ textOf s
   enough-pieces k l =

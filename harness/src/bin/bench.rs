@@ -1,5 +1,5 @@
-//! The benchmark: three sheets of 600 cases, and lookups in a list of 2,000 quotes, one and hundreds,
-//! through the proved desk, the plain one and a bare copy of the same bytes. Lookups also go through
+//! The benchmark: three sheets of 600 cases ruled and one printed, and lookups in a list of 2,000
+//! quotes, one and hundreds, through the proved desk, the plain one and a bare copy of the same bytes. Lookups also go through
 //! the independent desk's own, which is written to be read: the plain one is [`fast_quotes`].
 //!
 //!     bench                              medians of many rounds, in ns per case and per lookup
@@ -10,6 +10,7 @@ use std::hint::black_box;
 use std::time::Instant;
 
 use harness::accepted::accepted;
+use harness::desk::TEXT_BYTES;
 use harness::desks::{Desk, Plain, Proved, QuoteDesk};
 use harness::fast_quotes;
 use harness::fields::{encode_list, QuoteFields, NONE};
@@ -21,7 +22,9 @@ const CASES: usize = 600;
 const QUOTES: usize = 2_000;
 const WARM_UP: usize = 200;
 const ROUNDS: usize = 2_001;
-const SHEETS: [&str; 3] = ["accepted", "refused", "half"];
+const SHEETS: [&str; 4] = ["accepted", "refused", "half", PRINTED];
+/// The sheet with half of each, printed and not ruled.
+const PRINTED: &str = "printed";
 /// How many quotes of the list precede the trade; or many trades all over the list, as on a busy
 /// morning; or for each of those trades the number of quotes before it.
 const LOOKUPS: [&str; 4] = ["1000", "20", MORNING, NUMBER];
@@ -99,6 +102,50 @@ impl Bench for Ruling {
                 black_box(&mut self.read).copy_from_slice(black_box(&self.sheet));
                 let out = &mut black_box(&mut self.out)[..self.answers.len()];
                 out.copy_from_slice(black_box(&self.answers));
+            }
+        }
+    }
+}
+
+/// A sheet, its text, and the buffers that every worker writes to.
+struct Printing {
+    sheet: Vec<u8>,
+    text: Vec<u8>,
+    read: Vec<u8>,
+    out: Box<[u8; TEXT_BYTES]>,
+}
+
+impl Printing {
+    /// Both desks print once, and alike.
+    fn new() -> Printing {
+        let sheet = sheet(PRINTED);
+        let mut out = Box::new([0; TEXT_BYTES]);
+        let mut text = [0; TEXT_BYTES];
+        let proved = Proved.print_sheet(&sheet, &mut text) as usize;
+        let plain = Plain.print_sheet(&sheet, &mut out) as usize;
+        assert_eq!(text[..proved], out[..plain], "the desks agree");
+        Printing {
+            read: vec![0; sheet.len()],
+            sheet,
+            text: text[..proved].to_vec(),
+            out,
+        }
+    }
+}
+
+impl Bench for Printing {
+    fn round(&mut self, worker: &str) {
+        match worker {
+            "proved" => {
+                black_box(Proved.print_sheet(black_box(&self.sheet), black_box(&mut self.out)));
+            }
+            "plain" => {
+                black_box(Plain.print_sheet(black_box(&self.sheet), black_box(&mut self.out)));
+            }
+            _ => {
+                black_box(&mut self.read).copy_from_slice(black_box(&self.sheet));
+                let out = &mut black_box(&mut self.out)[..self.text.len()];
+                out.copy_from_slice(black_box(&self.text));
             }
         }
     }
@@ -281,6 +328,7 @@ fn workers(what: &str) -> &'static [&'static str] {
 fn bench(what: &str) -> Box<dyn Bench> {
     match what {
         NUMBER => Box::new(Number::new()),
+        PRINTED => Box::new(Printing::new()),
         _ if SHEETS.contains(&what) => Box::new(Ruling::new(what)),
         _ => Box::new(Lookup::new(what)),
     }

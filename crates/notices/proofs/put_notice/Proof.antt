@@ -1,3 +1,4 @@
+-- Three stretches stored one after the other are the record.
 use denote.Ref.{now}
 use Rattle.notices.proofs.Built.{notice-written}
 use borrow.Author.Needs.{needs}

@@ -1,3 +1,4 @@
+-- Two stretches stored one after the other are the record.
 use denote.Ref.{now}
 use Rattle.notices.proofs.Built.{ruling-written}
 use borrow.Author.Needs.{needs}

@@ -1,4 +1,8 @@
+-- A piece that is not empty is one of those that a report has at most, so an empty one comes.
 use Prim.Native.Nat.{_-_}
+use native.Mathlib.Omega.{arith}
+use Rattle.report.specs.Pieces.{mostPieces}
+use Rattle.report.proofs.Pieces.{piece-within}
 use borrow.Author.Needs.{needs}
 use Rattle.printer.proofs.write_report.Statement.{statement}
 use Rattle.printer.proofs.write_report.Tie as tie
@@ -7,7 +11,7 @@ abbrev Inv-loop : tie.InvT-loop
 Inv-loop sheet line₀ k₀ line k = Unit {0}
 
 abbrev μ-loop : tie.MeasureT-loop
-μ-loop sheet line₀ k₀ line k = 602 - k
+μ-loop sheet line₀ k₀ line k = mostPieces - k
 
 loop-holds : tie.Need-loop-holds Inv-loop μ-loop
 loop-holds c = search needs
@@ -31,16 +35,17 @@ returns-2 : tie.Need-returns-2 Inv-loop μ-loop
 returns-2 c = search needs
 
 add-k : tie.Need-add-k Inv-loop μ-loop
-add-k c = search needs
+add-k c =
+    let test = c .before .before .before in
+    omega (arith, piece-within _ _ _ (test .before .print-piece .ensures .0 .0) (test .if1 .left))
 
 loop-less : tie.Need-loop-less Inv-loop μ-loop
-loop-less c = search needs
+loop-less c =
+    let test = c .before .before .before in
+    omega (arith, piece-within _ _ _ (test .before .print-piece .ensures .0 .0) (test .if1 .left))
 
 loop-again : tie.Need-loop-again Inv-loop μ-loop
 loop-again c = search needs
-
-returns-3 : tie.Need-returns-3 Inv-loop μ-loop
-returns-3 c = search needs
 
 pub write-report-spec : {M : Type 1} → statement M
 write-report-spec =
@@ -57,5 +62,4 @@ write-report-spec =
     returns-2
     add-k
     loop-less
-    loop-again
-    returns-3)
+    loop-again)

@@ -1,3 +1,4 @@
+-- Of the cases passed, so many are ruled; a case that is lent is the case of its place.
 use Prim.Native.Nat.{_-_, _≤_}
 use mathlib.Core.Path.{_≡_, refl}
 use native.Mathlib.Numerals.{add-one}

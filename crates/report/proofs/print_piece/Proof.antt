@@ -1,3 +1,4 @@
+-- By the test of the whole sheet: a piece of its text, or its refusal and then nothing.
 use Prim.Native.Nat.{zero-le}
 use mathlib.Core.Path.{refl, sym, ap, _∙_}
 use native.Mathlib.Omega.{arith}

@@ -1,3 +1,4 @@
+-- Each piece by the test that leads to it: the header, the line of a case, END, or none.
 use mathlib.Core.Path.{refl}
 use native.Mathlib.Omega.{arith}
 use denote.Ref.{now}
@@ -51,7 +52,7 @@ returns-2 c =
     let p = c .before .before in
     let t = p .before .before .before in
     let a = t .before .before .before .before .args in
-    as-line _ _ _ _ _ (at-line (now (a .sheet)) (a .k) _ (omega arith) (t .if2 .taken)) (p .put-case .ensures .0, p .put-case .ensures .2)
+    as-line _ _ _ _ _ (at-line (now (a .sheet)) (a .k) _ (omega arith) (omega arith)) (p .put-case .ensures .0, p .put-case .ensures .2)
 
 count-ruled-requires : tie.Need-count-ruled-requires
 count-ruled-requires c κs = search needs

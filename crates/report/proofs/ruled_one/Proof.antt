@@ -1,3 +1,4 @@
+-- A case is ruled exactly where no test fails.
 use mathlib.Core.Path.{sym}
 use borrow.Author.Needs.{needs}
 use Rattle.sheet.proofs.Entries.{told-ruled, told-refused, one-ruled, one-refused}

@@ -1,3 +1,4 @@
+-- What is read for the way is the record's own, so the way is that of the record's facts.
 use Prim.Native.Nat.{ℕ}
 use mathlib.Core.Path.{_≡_, ap, _∙_}
 use mathlib.Core.List.{List}

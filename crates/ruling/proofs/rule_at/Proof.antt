@@ -1,3 +1,4 @@
+-- What is read for the error, and for agreement, is the record's own.
 use Prim.Native.Nat.{ℕ}
 use mathlib.Core.Path.{_≡_, ap, _∙_}
 use mathlib.Core.Bool.{Bool, true, false}

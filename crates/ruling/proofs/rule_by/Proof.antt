@@ -1,5 +1,5 @@
 use mathlib.Core.Path.{_≡_, sym, ap, _∙_}
-use mathlib.Core.Bool.{Bool, true, false}
+use mathlib.Core.Bool.{true, false}
 use Rattle.record.specs.Record.{factsOf}
 use Rattle.ruling.specs.Words.{None, Trade, Request, Facts, Way, Obvious, Opening, Catastrophic, Ruling}
 use Rattle.ruling.specs.Ruling.{noRelief, ruledOn, ruledBy}

@@ -1,3 +1,4 @@
+-- The theoretical price is found from the record's own market.
 use Prim.Native.Nat.{ℕ}
 use mathlib.Core.Path.{_≡_, ap, _∙_}
 use mathlib.Core.List.{List}
