@@ -3,13 +3,14 @@ use Prim.Native.Nat.{ℕ, _+_, _-_, _*_, _≤_, _<_, zero-le}
 use mathlib.Core.Path.{_≡_, refl, _∙_}
 use mathlib.Core.List.{List}
 use native.Mathlib.Numerals.{add-one}
-use native.Mathlib.Nat.{add-sub-cancel-left, suc-mul}
+use native.Mathlib.Nat.{suc-mul}
 use native.Mathlib.Omega.{arith}
 use lib.ListN.{length, take, drop}
 use borrow.Rule.Slice.PartMut.{midOf, putMid}
 use Rattle.wire.specs.Laid.{row}
 use Rattle.wire.proofs.Rows.{Ran, row-start, row-turn}
-use Rattle.sheet.specs.Sheet.{caseAt, casesIn}
+use Rattle.sheet.specs.Sheet.{casesIn}
+use Rattle.sheet.proofs.Turns.{lent}
 use Rattle.filling.specs.Filling.{fillingOf, fillReadOf}
 use Rattle.fillings.specs.Fillings.{fillNumber, filledOne, filledIn, caseRead, readIn}
 use Rattle.fill_report.specs.Told.{told}
@@ -29,11 +30,6 @@ pub first : (q s out : List ℕ) → Turn q s out out 0 0 0 0
 unfolding filledIn readIn
 first q s out =
     record { within = omega arith; ran = row-start (told q s) out; counted = refl; summed = refl; most = zero-le; few = omega arith; least = zero-le; same = refl }
-
--- the part of the sheet that is lent for a turn is case i
-lent : (s : List ℕ) (i : ℕ) → take (i * 88 + 88 - i * 88) (drop (i * 88) s) ≡ caseAt s i
-unfolding caseAt
-lent s i = rw (add-sub-cancel-left (i * 88) 88)
 
 -- a turn: what is said of case i goes into the part of the buffer from its place on
 pub next : (q s out₀ out ys : List ℕ) (i at filled read bytes one more-read : ℕ) → Turn q s out₀ out i at filled read → i < casesIn s
