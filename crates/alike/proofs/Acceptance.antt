@@ -12,7 +12,7 @@ use Rattle.agreement.specs.Agreed.{heededOf, acceptedInTime}
 use Rattle.act.specs.Minimum.{minimumOf}
 use Rattle.act.specs.Limits.{catastrophicStopped}
 use Rattle.act.specs.Act.{catastrophicPrice, catastrophicAct, actOf}
-use Rattle.alike.specs.Words.{Mills, At, Moment, Facts, Trade, Way, Obvious, Opening, Catastrophic, Open, By, Closed, Source, Theory, Found, Missing, Heeded, Ignored, Repriced, Undone, Ruling}
+use Rattle.alike.specs.Words.{Mills, Moment, Facts, Trade, Way, Obvious, Opening, Catastrophic, Open, By, Closed, Source, Theory, Found, Missing, Heeded, Ignored, Repriced, Undone, Ruling}
 use Rattle.ruling.specs.Ruling.{noRelief, carriedOut, settled, ruledAt, ruledFrom, ruledOn, ruledBy, ruledIf, rulingOf}
 use Rattle.alike.specs.Accepted.{acceptedAt, NotAsked}
 use Rattle.ruling.proofs.Walk.{heededAt}
@@ -52,7 +52,7 @@ module _ (f : Facts) (m : Moment) where
   same-from : (way : Way) (t : Theory) → NotAsked (ruledFrom f way t) → ruledFrom g way t ≡ ruledFrom f way t
   unfolding ruledAt heededOf
   same-from way (Found s) k =
-      where-true (settled g way s (heededAt f way)) (settled f way s (heededAt f way)) (noRelief (f .trade) 1 (At (s .price))) (same-settled way s (heededAt f way))
+      where-true (settled g way s (heededAt f way)) (settled f way s (heededAt f way)) (noRelief (f .trade) 1 (Found s)) (same-settled way s (heededAt f way))
       (inError (f .request .side) (f .trade .price) (s .price) (minimumOf way (bandOf (s .price)))) k
   same-from way Missing k = refl
 

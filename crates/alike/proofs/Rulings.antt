@@ -13,7 +13,7 @@ use Rattle.agreement.specs.Agreed.{acceptedInTime}
 use Rattle.act.specs.Minimum.{minimumOf}
 use Rattle.act.specs.Tested.{Alike}
 use Rattle.act.proofs.Blind.{act-blind}
-use Rattle.alike.specs.Words.{Price, At, None, Side, Facts, Way, Obvious, Opening, Catastrophic, Open, By, Closed, Source, Theory, Found, Missing, Heeded, Ignored, Repriced, Undone, Ruling}
+use Rattle.alike.specs.Words.{Price, None, Side, Facts, Way, Obvious, Opening, Catastrophic, Open, By, Closed, Source, Theory, Found, Missing, Heeded, Ignored, Repriced, Undone, Ruling}
 use Rattle.ruling.specs.Ruling.{noRelief, carriedOut, settled, ruledAt, ruledFrom, ruledOn, ruledBy, ruledIf, rulingOf}
 use Rattle.alike.specs.Tested.{testedUnder, testedFrom, testedOn, testedBy, testedIf, testedIn, alteredFacts}
 use Rattle.ruling.proofs.Walk.{heededAt}
@@ -50,7 +50,7 @@ module _ (f : Facts) (who : Side) (code : List ℕ) (limit : Price) where
   unfolding ruledAt
   same-from way (Found s) k =
       where-true who old limit (testedUnder f way s who (heededAt f way)) (settled g way s (heededAt f way)) (settled f way s (heededAt f way))
-      (noRelief (f .trade) 1 (At (s .price))) (same-settled way s (heededAt f way))
+      (noRelief (f .trade) 1 (Found s)) (same-settled way s (heededAt f way))
       (inError (f .request .side) (f .trade .price) (s .price) (minimumOf way (bandOf (s .price)))) k
   same-from way Missing k = refl
 
@@ -63,7 +63,7 @@ module _ (f : Facts) (who : Side) (code : List ℕ) (limit : Price) where
   same-by Obvious k = same-on Obvious k
   same-by Opening k = same-on Opening k
   same-by Catastrophic k =
-      where-false who old limit (testedOn f who Catastrophic) (ruledOn g Catastrophic) (ruledOn f Catastrophic) (noRelief (f .trade) 3 None)
+      where-false who old limit (testedOn f who Catastrophic) (ruledOn g Catastrophic) (ruledOn f Catastrophic) (noRelief (f .trade) 3 Missing)
       (same-on Catastrophic) (f .request .decided) k
 
   same-if : (o : Open) → Same (testedIf f who o) → ruledIf g o ≡ ruledIf f o

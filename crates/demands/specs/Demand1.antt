@@ -133,7 +133,7 @@ text-answered = why.text-answered
 pub header-first : (s : List ℕ) → wholeCases s ≡ true → (rest : List ℕ) × (textOf s ≡ header ++ rest)
 header-first = why.header-first
 
-pub empty-report : textOf [] ≡ letters "TRADE OUTCOME REASON TP NEW ADJ NUL OLD" ++ (10 ∷ []) ++ letters "END 0 0" ++ (10 ∷ [])
+pub empty-report : textOf [] ≡ letters "TRADE OUTCOME REASON TP NEW ADJ NUL OLD FROM" ++ (10 ∷ []) ++ letters "END 0 0" ++ (10 ∷ [])
 empty-report = why.empty-report
 
 -- No text is longer than the 65,536 bytes of `print_sheet`'s buffer.

@@ -1,4 +1,4 @@
--- The starred edges (RULE R14.1 to R14.10), all in one statement over a list. Unless said: obvious way, no Customer, limit or
+-- The starred edges (RULE R14.1 to R14.10), each with the origin of its TP, all in one statement over a list. Unless said: obvious way, no Customer, limit or
 -- agreement, bytes 46 and 47 at 0.
 use Prim.Native.Nat.{ℕ, _+_}
 use mathlib.Core.Path.{_≡_, refl}
@@ -15,7 +15,7 @@ use Rattle.refusals.specs.Tests.{headOk, zerosOk, listsOk, faultOf, codesOk, co
 use Rattle.bands.specs.Table.{bandOf}
 use Rattle.bands.specs.Amounts.{inError, movedBy, obviousAdjustmentOf}
 use Rattle.way.specs.Way.{obviousOpen, openingOpen, catastrophicOpen, wayOf}
-use Rattle.theory.specs.Theory.{theoryOf}
+use Rattle.theory.specs.Theory.{theoryOf, theoryPrice, theoryOrigin}
 use Rattle.agreement.specs.Agreed.{inTime, mayNullify, heededOf}
 use Rattle.act.specs.Limits.{openingTested, openingStopped, catastrophicStopped}
 use Rattle.act.specs.Act.{obviousAct, openingAct, catastrophicAct, actOf}
@@ -52,7 +52,7 @@ at n = At (mills n)
 abbrev filed : ℕ → Side → ℕ → ℕ → Facts
 filed after side quote execution = case side (at quote) execution MarketMaker TradeDate after None Never
 
-abbrev buy : ℕ → ℕ → Facts
+abbrev pub buy : ℕ → ℕ → Facts
 buy offer execution = filed 120 Buy offer execution
 
 abbrev sell : ℕ → ℕ → Facts
@@ -72,24 +72,27 @@ record Edge : Type 0 where
   refusal : ℕ
   outcome : ℕ
   reason : ℕ
+  origin : ℕ
   tp : Price
   new : Price
   counts : Counts
 
-abbrev edge : Facts → ℕ → ℕ → Price → Price → Counts → Edge
-edge f outcome reason tp new counts = record { facts = f; refusal = 0; outcome = outcome; reason = reason; tp = tp; new = new; counts = counts }
+abbrev edge : Facts → ℕ → ℕ → ℕ → Price → Price → Counts → Edge
+edge f outcome reason origin tp new counts =
+    record { facts = f; refusal = 0; outcome = outcome; reason = reason; origin = origin; tp = tp; new = new; counts = counts }
 
 abbrev all : ℕ → ℕ → ℕ → Counts
 all adjusted nullified standing = record { adjusted = contracts adjusted; nullified = contracts nullified; standing = contracts standing }
 
+-- the quote's origin, 1, wherever there is a TP
 abbrev stands : Facts → ℕ → Edge
-stands f tp = edge f 0 1 (at tp) None (all 0 0 10)
+stands f tp = edge f 0 1 1 (at tp) None (all 0 0 10)
 
 abbrev becomes : Facts → ℕ → ℕ → ℕ → Edge
-becomes f reason tp price = edge f 1 reason (at tp) (at price) (all 10 0 0)
+becomes f reason tp price = edge f 1 reason 1 (at tp) (at price) (all 10 0 0)
 
 abbrev undone : Facts → ℕ → ℕ → Edge
-undone f reason tp = edge f 2 reason (at tp) None (all 0 10 0)
+undone f reason tp = edge f 2 reason 1 (at tp) None (all 0 10 0)
 
 -- what the definitions make of the case of an edge
 abbrev ruled : Edge → Edge
@@ -100,7 +103,8 @@ ruled e =
       refusal = faultOf (e .facts);
       outcome = outcomeNumber (r .outcome);
       reason = r .reason;
-      tp = r .tp;
+      origin = theoryOrigin (r .tp);
+      tp = theoryPrice (r .tp);
       new = newPrice (r .outcome);
       counts = countsOf (r .outcome);
     }
@@ -134,8 +138,8 @@ edges =
     ∷ becomes (toCustomer 12000 6000 (After (seconds 1800))) 9 12000 7000
     ∷ undone (toCustomer 12000 6000 (After (seconds 1801))) 12 12000
     -- no quote and no official's price: waiting (14) where a way is open, late (2) where none is
-    ∷ edge (unquoted TradeDate) 3 14 None None (all 0 0 10)
-    ∷ edge (unquoted Later) 0 2 None None (all 0 0 10)
+    ∷ edge (unquoted TradeDate) 3 14 0 None None (all 0 0 10)
+    ∷ edge (unquoted Later) 0 2 0 None None (all 0 0 10)
     ∷ []
 
 -- Each is accepted and has just that ruling.
@@ -158,6 +162,7 @@ expected e = (
         trade = 1;
         outcome = e .outcome;
         reason = e .reason;
+        origin = e .origin;
         tp = priceNumber (e .tp);
         price = priceNumber (e .new);
         adjusted = e .counts .adjusted .0;

@@ -248,6 +248,12 @@ find-way-exact = way.Exact.find-way-exact
 pub find-theory-exact : Exact (theory.find_theory.Reads.Post tt)
 find-theory-exact = theory.Exact.find-theory-exact
 
+pub tp-number-exact : Exact (theory.tp_number.Reads.Post tt)
+tp-number-exact = theory.Exact.tp-number-exact
+
+pub origin-number-exact : Exact (theory.origin_number.Reads.Post tt)
+origin-number-exact = theory.Exact.origin-number-exact
+
 pub heed-exact : Exact (agreement.heed.Reads.Post tt)
 heed-exact = agreement.Exact.heed-exact
 

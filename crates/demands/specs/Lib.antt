@@ -5,6 +5,7 @@ pub mod Demand2
 pub mod RoundTrips
 pub mod Demand3
 pub mod Laws
+pub mod Origins
 pub mod Sheets
 pub mod Pieces
 pub mod Quotes

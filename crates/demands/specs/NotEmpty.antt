@@ -29,8 +29,8 @@ use Rattle.specimen.specs.Good.{goodCase}
 -- reason 6, all 10 contracts. In mills:
 abbrev goodAnswer : List ℕ
 goodAnswer =
-    -- the ruling: length, kind, trade; outcome, reason, two zeros; TP, new price; contracts adjusted, nullified, standing
-    bytes 2 32 ++ bytes 2 16 ++ bytes 4 7 ++ (1 ∷ 6 ∷ 0 ∷ 0 ∷ []) ++ bytes 4 1500 ++ bytes 4 1650 ++ bytes 4 10 ++ bytes 4 0 ++ bytes 4 0
+    -- the ruling: length, kind, trade; outcome, reason, the offer's origin, zero; TP, new price; contracts adjusted, nullified, standing
+    bytes 2 32 ++ bytes 2 16 ++ bytes 4 7 ++ (1 ∷ 6 ∷ 1 ∷ 0 ∷ []) ++ bytes 4 1500 ++ bytes 4 1650 ++ bytes 4 10 ++ bytes 4 0 ++ bytes 4 0
     -- to the buyer: length, kind, trade; outcome, reason, recipient, zero; new price; contracts adjusted, nullified; the seller's code, its own
     ++ bytes 2 32 ++ bytes 2 17 ++ bytes 4 7 ++ (1 ∷ 6 ∷ 1 ∷ 0 ∷ []) ++ bytes 4 1650 ++ bytes 4 10 ++ bytes 4 0 ++ (90 ∷ 88 ∷ 57 ∷ 48 ∷ []) ++ (65 ∷ 66 ∷ 49 ∷ 50 ∷ [])
     -- to the seller, likewise
@@ -66,7 +66,7 @@ openingCase = stored (stored (stored (stored goodCase 12 (bytes 4 50)) 45 (1 ∷
 
 abbrev openingAnswer : List ℕ
 openingAnswer =
-    bytes 2 32 ++ bytes 2 16 ++ bytes 4 7 ++ (1 ∷ 7 ∷ 0 ∷ 0 ∷ []) ++ bytes 4 1500 ++ bytes 4 1500 ++ bytes 4 30 ++ bytes 4 0 ++ bytes 4 20
+    bytes 2 32 ++ bytes 2 16 ++ bytes 4 7 ++ (1 ∷ 7 ∷ 1 ∷ 0 ∷ []) ++ bytes 4 1500 ++ bytes 4 1500 ++ bytes 4 30 ++ bytes 4 0 ++ bytes 4 20
     ++ bytes 2 32 ++ bytes 2 17 ++ bytes 4 7 ++ (1 ∷ 7 ∷ 1 ∷ 0 ∷ []) ++ bytes 4 1500 ++ bytes 4 30 ++ bytes 4 0 ++ (90 ∷ 88 ∷ 57 ∷ 48 ∷ []) ++ (65 ∷ 66 ∷ 49 ∷ 50 ∷ [])
     ++ bytes 2 32 ++ bytes 2 17 ++ bytes 4 7 ++ (1 ∷ 7 ∷ 2 ∷ 0 ∷ []) ++ bytes 4 1500 ++ bytes 4 30 ++ bytes 4 0 ++ (65 ∷ 66 ∷ 49 ∷ 50 ∷ []) ++ (90 ∷ 88 ∷ 57 ∷ 48 ∷ [])
 

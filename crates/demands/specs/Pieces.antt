@@ -1,4 +1,4 @@
--- The report piece by piece (RULE R11): the pieces of any bytes, one after the other, are their report, and each fits a buffer of 85 bytes.
+-- The report piece by piece (RULE R11): the pieces of any bytes, one after the other, are their report, and each fits a buffer of 96 bytes.
 use Prim.Native.Nat.{ℕ, _≤_, _<_}
 use mathlib.Core.Path.{_≡_, sym, _∙_}
 use mathlib.Core.List.{List, []}
@@ -13,7 +13,7 @@ use Rattle.report.specs.Pieces.{pieceOf, piecesIn, mostPieces}
 use Rattle.report.proofs as report
 use Rattle.demands.specs.Why as why
 
--- No caller tests anything first: the buffer has 85 bytes by its type.
+-- No caller tests anything first: the buffer has 96 bytes by its type.
 pub nothing-asked : (κs : Lfts 2) (s b : RefT (List ℕ)) (k : ℕ) → report.print_piece.Reads.Asked κs (s, (k, (b, tt)))
 nothing-asked κs s b k = tt
 
@@ -32,13 +32,13 @@ piece-empty s k = (report.Pieces.piece-some s k, report.Pieces.piece-past s k)
 pub until-empty : (s : List ℕ) (k : ℕ) → length (pieceOf s k) ≡ 0 → row (pieceOf s) k ≡ textOf s
 until-empty = report.Pieces.until-empty
 
--- No piece is longer than 85 bytes.
-pub piece-fits : (s : List ℕ) (k : ℕ) → length (pieceOf s k) ≤ 85
+-- No piece is longer than 96 bytes.
+pub piece-fits : (s : List ℕ) (k : ℕ) → length (pieceOf s k) ≤ 96
 piece-fits = report.Pieces.piece-most
 
 -- So every call of `print_piece`.
 pub print-piece-says : (κs : Lfts 2) (s s' out out' : RefT (List ℕ)) (k k' r : ℕ) → report.print_piece.Reads.Post κs (s, (k, (out, tt))) r (s', (k', (out', tt)))
-    → (r ≡ length (pieceOf (now s) k)) × (r ≤ 85) × (now out' ≡ laid (pieceOf (now s) k) (now out))
+    → (r ≡ length (pieceOf (now s) k)) × (r ≤ 96) × (now out' ≡ laid (pieceOf (now s) k) (now out))
 print-piece-says κs s s' out out' k k' r p = (p .0 .0, rw (p .0 .0) (piece-fits (now s) k), p .0 .1)
 
 -- And every run of calls on one sheet, for piece 0 to piece n, whatever the buffers hold before: where the last answers 0, what the calls before

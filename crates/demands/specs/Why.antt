@@ -176,7 +176,7 @@ module _ (s : List ℕ) (k : ℕ) (within : k < casesIn s) where
   unfolding entryBytes refusalBytes
   entered = either As (eqb n 0) _ _ (λ h. inl (eqb-true n 0 h, refl, answer-length (readingOf c .facts))) (λ h. inr (other entryNumbers n entry-told h, refl, refl))
 
--- ---- the printer's text: 600 lines of 85 bytes at most, the header and END
+-- ---- the printer's text: 600 lines of 96 bytes at most, the header and END
 module _ (s : List ℕ) where
   pub text-answered : (wholeCases s ≡ true → textOf s ≡ ruledText s (casesIn s)) × (wholeCases s ≡ false → textOf s ≡ sheetLine 10)
   unfolding textOf
@@ -185,7 +185,7 @@ module _ (s : List ℕ) where
   whole-fits : (n : ℕ) → n ≤ 600 → length (ruledText s n) ≤ 65536
   whole-fits n h =
       rw (length-append, length-append)
-      (omega (arith, header-most, row-most (lineOf s) 85 (λ k. line-most k _) n, end-most (ruledIn s n) (n - ruledIn s n)))
+      (omega (arith, header-most, row-most (lineOf s) 96 (λ k. line-most k _) n, end-most (ruledIn s n) (n - ruledIn s n)))
 
   pub text-fits : length (textOf s) ≤ 65536
   unfolding textOf
@@ -196,7 +196,7 @@ module _ (s : List ℕ) where
   unfolding textOf
   header-first h = (row (lineOf s) (casesIn s) ++ endLine (ruledIn s (casesIn s)) (casesIn s - ruledIn s (casesIn s)), simp h (append-assoc header _ _))
 
-pub empty-report : textOf [] ≡ letters "TRADE OUTCOME REASON TP NEW ADJ NUL OLD" ++ (10 ∷ []) ++ letters "END 0 0" ++ (10 ∷ [])
+pub empty-report : textOf [] ≡ letters "TRADE OUTCOME REASON TP NEW ADJ NUL OLD FROM" ++ (10 ∷ []) ++ letters "END 0 0" ++ (10 ∷ [])
 unfolding textOf wholeCases header endLine row ruledIn decimalOf spelt
 empty-report = refl
 

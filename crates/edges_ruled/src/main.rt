@@ -1,6 +1,6 @@
 // Cases brought to the desk, and how they are ruled: run and compared with `stdout`, which was worked out by hand from
-// document 01 (docs/RULE.md). A ruled case's line gives its number (0), outcome, reason, TP, new price, and the contracts adjusted, nullified and
-// standing; 4294967295 is none. The record that each starts from is `specimen`'s.
+// document 01 (docs/RULE.md). A ruled case's line gives its number (0), outcome, reason, TP, new price, the contracts adjusted, nullified and
+// standing, and the origin of TP; 4294967295 is none. The record that each starts from is `specimen`'s.
 use libc::STDOUT_FILENO;
 use specimen::byte;
 use specimen::good;
@@ -47,6 +47,7 @@ fn say_ruling(answer: &[u8]) {
     say_u32(answer, 20);
     say_u32(answer, 24);
     say_u32(answer, 28);
+    say_u8(answer, 10);
 }
 
 // ---- a case
@@ -102,6 +103,7 @@ fn panels() {
 
 fn prices() {
     let bare = word(word(good(), 24, NONE), 32, 0);
+    ruled(b"an offer, official 1200", word(good(), 40, 1200));
     ruled(b"no offer, official 1500", word(bare, 40, 1500));
     ruled(b"no offer, no official", bare);
     ruled(b"a sell above the bid", byte(good(), 44, 2));

@@ -10,11 +10,13 @@ use facts::Price;
 use ruling::Counts;
 use ruling::Outcome;
 
-// 4,294,967,295 for a price of none; the outcome 0 no relief, 1 adjusted, 2 nullified, 3 waiting.
+// 4,294,967,295 for a price of none; the outcome 0 no relief, 1 adjusted, 2 nullified, 3 waiting; the origin of TP 1 a quote, 2 an official, 0 where
+// TP is none.
 pub struct Figures {
     pub trade: u32,
     pub outcome: u8,
     pub reason: u8,
+    pub origin: u8,
     pub tp: u32,
     pub price: u32,
     pub adjusted: u32,
@@ -22,14 +24,15 @@ pub struct Figures {
     pub standing: u32,
 }
 
-// The figures for a reason: TP and the new price as numbers, and the counts.
-fn spell(trade: u32, reason: u8, tp: u32, price: u32, counts: Counts) -> Figures
-    ensures { λ n. ⌜ n ≡ record { trade = trade; outcome = reasonOutcome reason; reason = reason; tp = tp; price = price; adjusted = counts .adjusted .0; nullified = counts .nullified .0; standing = counts .standing .0 } ⌝ }
+// The figures for a reason: TP's origin, TP and the new price as numbers, and the counts.
+fn spell(trade: u32, reason: u8, origin: u8, tp: u32, price: u32, counts: Counts) -> Figures
+    ensures { λ n. ⌜ n ≡ record { trade = trade; outcome = reasonOutcome reason; reason = reason; origin = origin; tp = tp; price = price; adjusted = counts .adjusted .0; nullified = counts .nullified .0; standing = counts .standing .0 } ⌝ }
 {
     Figures {
         trade: trade,
         outcome: reasons::outcome_of(reason),
         reason: reason,
+        origin: origin,
         tp: tp,
         price: price,
         adjusted: counts.adjusted.0,
@@ -47,17 +50,18 @@ pub fn judge(case: &[u8]) -> Figures
 {
     let r = ruling::rule(case);
     let outcome = r.outcome;
-    let given = r.tp;
-    let tp = facts::price_number(given);
+    let found = r.tp;
+    let origin = theory::origin_number(found);
+    let tp = theory::tp_number(found);
     let none = facts::price_number(Price::None);
     match outcome {
-        Outcome::NoRelief(counts) => spell(r.trade, r.reason, tp, none, counts),
+        Outcome::NoRelief(counts) => spell(r.trade, r.reason, origin, tp, none, counts),
         Outcome::Adjusted(a) => {
             let price = a.price;
             let counts = a.counts;
-            spell(r.trade, r.reason, tp, price.0, counts)
+            spell(r.trade, r.reason, origin, tp, price.0, counts)
         }
-        Outcome::Nullified(counts) => spell(r.trade, r.reason, tp, none, counts),
-        Outcome::Waiting(counts) => spell(r.trade, r.reason, tp, none, counts),
+        Outcome::Nullified(counts) => spell(r.trade, r.reason, origin, tp, none, counts),
+        Outcome::Waiting(counts) => spell(r.trade, r.reason, origin, tp, none, counts),
     }
 }

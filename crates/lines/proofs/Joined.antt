@@ -11,6 +11,9 @@ two-fields f g = simp append-assoc
 pub three-fields : (f g h : List ℕ) → (ended f 32 ++ ended g 32) ++ ended h 10 ≡ line (f ∷ g ∷ h ∷ [])
 three-fields f g h = simp append-assoc
 
+pub four-fields : (f g h i : List ℕ) → ((ended f 32 ++ ended g 32) ++ ended h 32) ++ ended i 10 ≡ line (f ∷ g ∷ h ∷ i ∷ [])
+four-fields f g h i = simp append-assoc
+
 pub five-more : (f g h i j k : List ℕ) (rest : List (List ℕ))
     → ((((ended f 32 ++ ended g 32) ++ ended h 32) ++ ended i 32) ++ ended j 32) ++ line (k ∷ rest) ≡ line (f ∷ g ∷ h ∷ i ∷ j ∷ k ∷ rest)
 five-more f g h i j k rest = simp append-assoc

@@ -1,4 +1,4 @@
--- No line is longer than 85 bytes: eight fields of ten digits at most (seven letters for the outcome), each with the byte after it.
+-- No line is longer than 96 bytes: eight numbers of ten digits at most and the outcome's seven letters, each with the byte after it.
 use Prim.Native.Nat.{ℕ, _≤_}
 use mathlib.Core.List.{List}
 use native.Mathlib.Omega.{arith}
@@ -18,7 +18,7 @@ word-most outcome =
     (λ _. either short (eqb outcome 1) _ _ (λ _. omega arith)
     (λ _. either short (eqb outcome 2) _ _ (λ _. omega arith) (λ _. omega arith)))
 
-pub ruled-most : (n : Figures) → length (ruledLine n) ≤ 85
+pub ruled-most : (n : Figures) → length (ruledLine n) ≤ 96
 unfolding ruledLine
 ruled-most n =
     simp length-append
@@ -32,20 +32,21 @@ ruled-most n =
       decimal-length (n .adjusted),
       decimal-length (n .nullified),
       decimal-length (n .standing),
+      decimal-length (n .origin),
     ))
 
-pub refused-most : (index number : ℕ) → length (refusedLine index number) ≤ 85
+pub refused-most : (index number : ℕ) → length (refusedLine index number) ≤ 96
 unfolding refusedLine
 refused-most index number = simp length-append (omega (arith, decimal-length index, decimal-length number))
 
-pub header-most : length header ≤ 85
+pub header-most : length header ≤ 96
 unfolding header
 header-most = omega arith
 
-pub end-most : (ruled refused : ℕ) → length (endLine ruled refused) ≤ 85
+pub end-most : (ruled refused : ℕ) → length (endLine ruled refused) ≤ 96
 unfolding endLine
 end-most ruled refused = simp length-append (omega (arith, decimal-length ruled, decimal-length refused))
 
-pub sheet-most : (number : ℕ) → length (sheetLine number) ≤ 85
+pub sheet-most : (number : ℕ) → length (sheetLine number) ≤ 96
 unfolding sheetLine
 sheet-most number = simp length-append (omega (arith, decimal-length number))

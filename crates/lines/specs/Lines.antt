@@ -19,18 +19,18 @@ line (f ∷ g ∷ fs) = f ++ (32 ∷ line (g ∷ fs))
 
 -- the header comes first, over an empty sheet too
 unfoldable pub header : List ℕ
-header = line (letters "TRADE OUTCOME REASON TP NEW ADJ NUL OLD" ∷ [])
+header = line (letters "TRADE OUTCOME REASON TP NEW ADJ NUL OLD FROM" ∷ [])
 
 -- the word for an outcome: 0 no relief, 1 adjusted, 2 nullified, and 3, the only other, waiting
 unfoldable pub outcomeWord : ℕ → List ℕ
 outcomeWord outcome =
     pick (eqb outcome 0) (letters "NONE") (pick (eqb outcome 1) (letters "ADJUST") (pick (eqb outcome 2) (letters "NULLIFY") (letters "WAIT")))
 
--- contracts adjusted, nullified, standing
-abbrev pub countFields : Figures → List (List ℕ)
-countFields n = decimalOf (n .adjusted) ∷ decimalOf (n .nullified) ∷ decimalOf (n .standing) ∷ []
+-- contracts adjusted, nullified, standing, and last the origin of TP: 1 a quote, 2 an official, 0 none
+abbrev pub lastFields : Figures → List (List ℕ)
+lastFields n = decimalOf (n .adjusted) ∷ decimalOf (n .nullified) ∷ decimalOf (n .standing) ∷ decimalOf (n .origin) ∷ []
 
--- A ruled case: trade, the outcome's word, reason, TP, new price, contracts adjusted, nullified, standing; prices in mills, `-` for none.
+-- A ruled case: trade, the outcome's word, reason, TP, new price, contracts adjusted, nullified, standing, origin; prices in mills, `-` for none.
 unfoldable pub ruledLine : Figures → List ℕ
 ruledLine n =
     line (
@@ -39,7 +39,7 @@ ruledLine n =
     ∷ decimalOf (n .reason)
     ∷ priceText (priceOf (n .tp))
     ∷ priceText (priceOf (n .price))
-    ∷ countFields n
+    ∷ lastFields n
     )
 
 -- A refused case: `#` joined to the index, the word REFUSED, the number.

@@ -6,7 +6,7 @@ ghost use lib.ListN.{length};
 ghost use Rattle.wire.specs.Laid.{laid};
 ghost use Rattle.facts.specs.Numbers.{priceOf};
 ghost use Rattle.text.specs.Text.{laidAt, decimalOf, priceText};
-ghost use Rattle.lines.specs.Lines.{ended, header, outcomeWord, line, countFields, ruledLine, refusedLine, endLine, sheetLine};
+ghost use Rattle.lines.specs.Lines.{ended, header, outcomeWord, line, lastFields, ruledLine, refusedLine, endLine, sheetLine};
 use figures::Figures;
 
 // ---- a field and the byte after it
@@ -39,21 +39,22 @@ fn add_outcome(out: &mut [u8], at: usize, outcome: u8) -> usize
     }
 }
 
-// The contracts adjusted, nullified and standing, which end the line.
-fn add_counts(out: &mut [u8], at: usize, n: Figures) -> usize
-    requires { ⌜ at + 33 ≤ length (now out) ⌝ }
-    ensures { λ r. ⌜ (r ≡ at + length (line (countFields n))) × (now (out .exit) ≡ laidAt at (line (countFields n)) (now (out .entry))) ⌝ }
+// The contracts adjusted, nullified and standing, and the origin of TP, which end the line.
+fn add_last(out: &mut [u8], at: usize, n: Figures) -> usize
+    requires { ⌜ at + 44 ≤ length (now out) ⌝ }
+    ensures { λ r. ⌜ (r ≡ at + length (line (lastFields n))) × (now (out .exit) ≡ laidAt at (line (lastFields n)) (now (out .entry))) ⌝ }
 {
     let adjusted = add_number(out, at, n.adjusted, b' ');
     let nullified = add_number(out, adjusted, n.nullified, b' ');
-    add_number(out, nullified, n.standing, b'\n')
+    let standing = add_number(out, nullified, n.standing, b' ');
+    add_number(out, standing, n.origin as u32, b'\n')
 }
 
 // ---- the lines
 
 // The line of a ruled case.
 pub fn put_ruled(out: &mut [u8], n: Figures) -> usize
-    requires { ⌜ 85 ≤ length (now out) ⌝ }
+    requires { ⌜ 96 ≤ length (now out) ⌝ }
     ensures { λ r. ⌜ (r ≡ length (ruledLine n)) × (now (out .exit) ≡ laid (ruledLine n) (now (out .entry))) ⌝ }
 {
     let trade = add_number(out, 0, n.trade, b' ');
@@ -61,12 +62,12 @@ pub fn put_ruled(out: &mut [u8], n: Figures) -> usize
     let reason = add_number(out, outcome, n.reason as u32, b' ');
     let tp = add_price(out, reason, n.tp);
     let price = add_price(out, tp, n.price);
-    add_counts(out, price, n)
+    add_last(out, price, n)
 }
 
 // The line of a refused case.
 pub fn put_refused(out: &mut [u8], index: u32, number: u8) -> usize
-    requires { ⌜ 85 ≤ length (now out) ⌝ }
+    requires { ⌜ 96 ≤ length (now out) ⌝ }
     ensures { λ r. ⌜ (r ≡ length (refusedLine index number)) × (now (out .exit) ≡ laid (refusedLine index number) (now (out .entry))) ⌝ }
 {
     let mark = text::add_byte(out, 0, b'#');
@@ -77,15 +78,15 @@ pub fn put_refused(out: &mut [u8], index: u32, number: u8) -> usize
 
 // The header.
 pub fn put_header(out: &mut [u8]) -> usize
-    requires { ⌜ 85 ≤ length (now out) ⌝ }
+    requires { ⌜ 96 ≤ length (now out) ⌝ }
     ensures { λ r. ⌜ (r ≡ length header) × (now (out .exit) ≡ laid header (now (out .entry))) ⌝ }
 {
-    text::add_word(out, 0, b"TRADE OUTCOME REASON TP NEW ADJ NUL OLD\n")
+    text::add_word(out, 0, b"TRADE OUTCOME REASON TP NEW ADJ NUL OLD FROM\n")
 }
 
 // The last line: how many cases were ruled and refused.
 pub fn put_end(out: &mut [u8], ruled: u32, refused: u32) -> usize
-    requires { ⌜ 85 ≤ length (now out) ⌝ }
+    requires { ⌜ 96 ≤ length (now out) ⌝ }
     ensures { λ r. ⌜ (r ≡ length (endLine ruled refused)) × (now (out .exit) ≡ laid (endLine ruled refused) (now (out .entry))) ⌝ }
 {
     let word = text::add_word(out, 0, b"END ");
@@ -95,7 +96,7 @@ pub fn put_end(out: &mut [u8], ruled: u32, refused: u32) -> usize
 
 // The one line of a sheet refused whole.
 pub fn put_sheet(out: &mut [u8], number: u8) -> usize
-    requires { ⌜ 85 ≤ length (now out) ⌝ }
+    requires { ⌜ 96 ≤ length (now out) ⌝ }
     ensures { λ r. ⌜ (r ≡ length (sheetLine number)) × (now (out .exit) ≡ laid (sheetLine number) (now (out .entry))) ⌝ }
 {
     let words = text::add_word(out, 0, b"SHEET REFUSED ");

@@ -12,7 +12,7 @@ use Rattle.notices.specs.Words.{Side, Ruling, Figures}
 use Rattle.notices.specs.Records.{startBytes, ruledBytes, rulingRecord, rulingBytes, toldBytes, codeBytes, noticeRecord, noticeBytes, answerRecords, answerBytes}
 
 module _ (n : Figures) (o : List ℕ) (room : 32 ≤ length o) {o₁ o₂ : List ℕ} where
-  pub ruling-written : o₁ ≡ stored o 0 (startBytes 16 n 0) → o₂ ≡ stored o₁ 12 (ruledBytes n) → o₂ ≡ laid (rulingRecord n) o
+  pub ruling-written : o₁ ≡ stored o 0 (startBytes 16 n (n .origin)) → o₂ ≡ stored o₁ 12 (ruledBytes n) → o₂ ≡ laid (rulingRecord n) o
   unfolding rulingRecord
   ruling-written head ruled = stores o₂ (rulingRecord n) o (next 12 (ruledBytes n) ruled head) room
 

@@ -20,7 +20,7 @@ startBytes kind n own =
     -- 8 outcome; 9 reason; 10 the own byte; 11 zero
     ++ (n .outcome ∷ n .reason ∷ own ∷ 0 ∷ [])
 
--- ---- the ruling record, kind 16; 10 zero
+-- ---- the ruling record, kind 16; 10 the origin of TP (1 quote, 2 official, 0 none)
 abbrev pub ruledBytes : Figures → List ℕ
 ruledBytes n =
     -- 12 TP, or none
@@ -35,7 +35,7 @@ ruledBytes n =
     ++ bytes 4 (n .standing)
 
 unfoldable pub rulingRecord : Figures → List ℕ
-rulingRecord n = startBytes 16 n 0 ++ ruledBytes n
+rulingRecord n = startBytes 16 n (n .origin) ++ ruledBytes n
 
 abbrev pub rulingBytes : Ruling → List ℕ
 rulingBytes r = rulingRecord (figuresOf r)

@@ -79,7 +79,7 @@ fn put_ruling(out: &mut [u8], n: Figures)
     requires { ⌜ 32 ≤ length (now out) ⌝ }
     ensures { λ _. ⌜ now (out .exit) ≡ laid (rulingRecord n) (now (out .entry)) ⌝ }
 {
-    put_head(out, 16, n, 0);
+    put_head(out, 16, n, n.origin);
     put_ruled(out, n);
 }
 

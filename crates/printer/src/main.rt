@@ -1,5 +1,5 @@
 // The printer: reads a sheet on standard input, and writes its report, piece by piece. The buffer is one byte longer than the longest sheet, so
-// that a longer input, however long, is seen as one of 52,801 bytes and refused as every sheet above 52,800 is. No piece is longer than 85 bytes.
+// that a longer input, however long, is seen as one of 52,801 bytes and refused as every sheet above 52,800 is. No piece is longer than 96 bytes.
 ghost use Rattle.io.specs.Counts.{Counts};
 
 // What was read: how many bytes, and whether a read failed. Then a part of the input must not be ruled as if it were all of it.
@@ -49,7 +49,7 @@ fn write_line(to: i32, line: &[u8]) -> bool {
 
 // Writes the report's pieces, until an empty one comes after the last. Whether they could be written.
 fn write_report(sheet: &[u8]) -> bool {
-    let mut line = [0u8; 85];
+    let mut line = [0u8; 96];
     let mut k: usize = 0;
     loop {
         let n = report::print_piece(sheet, k, &mut line);

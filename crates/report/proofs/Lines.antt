@@ -33,10 +33,10 @@ module _ (k : ℕ) (r : Reading) where
   unfolding caseLine
   line-refused h = simp (ne-eqb (r .refusal) 0 h)
 
-  pub line-most : length (caseLine k r) ≤ 85
+  pub line-most : length (caseLine k r) ≤ 96
   unfolding caseLine
   line-most =
-      either (λ (w : List ℕ). length w ≤ 85) (eqb (r .refusal) 0) (ruledLine (figuresOf (rulingOf (r .facts)))) (refusedLine k (r .refusal))
+      either (λ (w : List ℕ). length w ≤ 96) (eqb (r .refusal) 0) (ruledLine (figuresOf (rulingOf (r .facts)))) (refusedLine k (r .refusal))
       (λ _. ruled-most (figuresOf (rulingOf (r .facts))))
       (λ _. refused-most k (r .refusal))
 
@@ -56,10 +56,10 @@ module _ (k : ℕ) (s l m : List ℕ) (n : ℕ) (e : n ≡ refusalOf s) where
       let z = told-refused s n e h in
       entered caseLine k (readingOf s) (refusedLine k n) l m bytes 0 (line-refused k (readingOf s) z ∙ ap (refusedLine k) (told-number s n e)) (w .0) (one-refused (readingOf s) z) (w .1)
 
-pub bytes-most : (b k : ℕ) (r : Reading) → b ≡ length (caseLine k r) → b ≤ 85
+pub bytes-most : (b k : ℕ) (r : Reading) → b ≡ length (caseLine k r) → b ≤ 96
 bytes-most b k r e = omega (arith, line-most k r)
 
-pub end-long : (b ruled refused : ℕ) → b ≡ length (endLine ruled refused) → b ≤ 85
+pub end-long : (b ruled refused : ℕ) → b ≡ length (endLine ruled refused) → b ≤ 96
 end-long b ruled refused e = omega (arith, end-most ruled refused)
 
 module _ (s : List ℕ) where

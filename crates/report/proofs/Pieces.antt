@@ -1,4 +1,4 @@
--- The pieces of a sheet's text: which piece is which, that they are the text, how many there are, and that each has at most 85 bytes.
+-- The pieces of a sheet's text: which piece is which, that they are the text, how many there are, and that each has at most 96 bytes.
 use Prim.Native.Nat.{ℕ, zero, suc, _+_, _-_, _*_, _≤_, _<_, zero-le}
 use mathlib.Core.Path.{_≡_, refl, sym, ap, _∙_}
 use mathlib.Core.Bool.{Bool, true, false}
@@ -88,10 +88,10 @@ unfolding caseLine ruledLine refusedLine
 case-some k r = either (λ (w : List ℕ). 1 ≤ length w) (eqb (r .refusal) 0) _ _ (λ _. simp length-append (omega arith)) (λ _. omega arith)
 
 module _ (s : List ℕ) (n : ℕ) where
-  pub ruled-piece-most : (k : ℕ) → length (ruledPiece s n k) ≤ 85
+  pub ruled-piece-most : (k : ℕ) → length (ruledPiece s n k) ≤ 96
   ruled-piece-most zero = header-most
   ruled-piece-most (suc k) =
-      let short : List ℕ → Type 0 = λ w. length w ≤ 85 in
+      let short : List ℕ → Type 0 = λ w. length w ≤ 96 in
       either short (ltb k n) _ _ (λ _. line-most k (readingOf (caseAt s k)))
       (λ _. either short (eqb k n) _ _ (λ _. end-most (ruledIn s n) (n - ruledIn s n)) (λ _. zero-le))
 
@@ -108,7 +108,7 @@ module _ (s : List ℕ) (n : ℕ) where
   ruled-piece-past zero l = let z : ⊥ = omega arith in absurd z
   ruled-piece-past (suc k) l = no-piece s n k (omega arith)
 
-refused-piece-most : (k : ℕ) → length (refusedPiece k) ≤ 85
+refused-piece-most : (k : ℕ) → length (refusedPiece k) ≤ 96
 refused-piece-most zero = sheet-most 10
 refused-piece-most (suc k) = zero-le
 
@@ -135,11 +135,11 @@ module _ (s : List ℕ) where
       (λ h. omega (arith, pieces-whole s h, whole-length s h))
       (λ h. omega (arith, pieces-refused s h))
 
-  -- no piece is longer than 85 bytes
-  pub piece-most : (k : ℕ) → length (pieceOf s k) ≤ 85
+  -- no piece is longer than 96 bytes
+  pub piece-most : (k : ℕ) → length (pieceOf s k) ≤ 96
   unfolding pieceOf
   piece-most k =
-      either (λ (w : List ℕ). length w ≤ 85) (wholeCases s) _ _ (λ _. ruled-piece-most s (casesIn s) k) (λ _. refused-piece-most k)
+      either (λ (w : List ℕ). length w ≤ 96) (wholeCases s) _ _ (λ _. ruled-piece-most s (casesIn s) k) (λ _. refused-piece-most k)
 
   -- a piece is empty exactly from the number of pieces on
   pub piece-some : (k : ℕ) → k < piecesIn s → 1 ≤ length (pieceOf s k)

@@ -1,4 +1,4 @@
--- A sheet's text in pieces of at most 85 bytes, for whoever writes it out and has no room for the whole of it (RULE R11).
+-- A sheet's text in pieces of at most 96 bytes, for whoever writes it out and has no room for the whole of it (RULE R11).
 use Prim.Native.Nat.{ℕ, zero, suc, _+_, _-_}
 use mathlib.Core.List.{List, []}
 use lib.Dec.{ltb, eqb}

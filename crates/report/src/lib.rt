@@ -18,7 +18,7 @@ struct Printed {
 
 // The line of one case, at the start of the buffer.
 fn put_case(case: &[u8], index: u32, out: &mut [u8]) -> Printed
-    requires { ⌜ 85 ≤ length (now out) ⌝ }
+    requires { ⌜ 96 ≤ length (now out) ⌝ }
     ensures { λ r. ⌜ (r .bytes ≡ length (caseLine index (readingOf (now (case .entry))))) × (r .ruled ≡ ruledOne (readingOf (now (case .entry)))) × (now (out .exit) ≡ laid (caseLine index (readingOf (now (case .entry)))) (now (out .entry))) ⌝ }
 {
     let number = cases::check_case(case);
@@ -36,9 +36,9 @@ fn put_case(case: &[u8], index: u32, out: &mut [u8]) -> Printed
 
 // The lines of the cases, one after the other.
 fn put_cases(sheet: &[u8], out: &mut [u8]) -> Printed
-    requires { ⌜ (length (now sheet) ≤ 52800) × (casesIn (now sheet) * 85 ≤ length (now out)) ⌝ }
+    requires { ⌜ (length (now sheet) ≤ 52800) × (casesIn (now sheet) * 96 ≤ length (now out)) ⌝ }
     ensures { λ r. ⌜ (r .bytes ≡ length (row (lineOf (now (sheet .entry))) (casesIn (now (sheet .entry))))) × (r .ruled ≡ ruledIn (now (sheet .entry)) (casesIn (now (sheet .entry)))) × (now (out .exit) ≡ laid (row (lineOf (now (sheet .entry))) (casesIn (now (sheet .entry)))) (now (out .entry))) ⌝ }
-    ensures { λ r. ⌜ (r .bytes ≤ casesIn (now (sheet .entry)) * 85) × (r .ruled ≤ casesIn (now (sheet .entry))) ⌝ }
+    ensures { λ r. ⌜ (r .bytes ≤ casesIn (now (sheet .entry)) * 96) × (r .ruled ≤ casesIn (now (sheet .entry))) ⌝ }
 {
     let n = sheet.len() / 88;
     let mut i: usize = 0;
@@ -103,7 +103,7 @@ fn count_ruled(sheet: &[u8]) -> usize
 
 // A piece of a sheet of whole cases: the header, a case's line, END, or nothing.
 fn put_piece(sheet: &[u8], k: usize, out: &mut [u8]) -> usize
-    requires { ⌜ (length (now sheet) ≤ 52800) × (85 ≤ length (now out)) ⌝ }
+    requires { ⌜ (length (now sheet) ≤ 52800) × (96 ≤ length (now out)) ⌝ }
     ensures { λ r. ⌜ (r ≡ length (ruledPiece (now (sheet .entry)) (casesIn (now (sheet .entry))) k)) × (now (out .exit) ≡ laid (ruledPiece (now (sheet .entry)) (casesIn (now (sheet .entry))) k) (now (out .entry))) ⌝ }
 {
     if k == 0 {
@@ -124,7 +124,7 @@ fn put_piece(sheet: &[u8], k: usize, out: &mut [u8]) -> usize
 }
 
 // Prints piece k of a sheet over the start of the buffer; every byte after it stays. Answers how many bytes it has: 0 after the last.
-pub fn print_piece(sheet: &[u8], k: usize, out: &mut [u8; 85]) -> usize
+pub fn print_piece(sheet: &[u8], k: usize, out: &mut [u8; 96]) -> usize
     ensures { λ r. ⌜ (r ≡ length (pieceOf (now (sheet .entry)) k)) × (now (out .exit) ≡ laid (pieceOf (now (sheet .entry)) k) (now (out .entry))) ⌝ }
     ensures { λ r. ⌜ (r ≤ length (now (out .exit))) × (r ≡ length (take r (now (out .exit)))) ⌝ }
 {

@@ -15,30 +15,30 @@ use Rattle.theory.specs.Theory.{upTo}
 use Rattle.theory.proofs.Prices.{theory-priced}
 use Rattle.agreement.specs.Agreed.{inTime, mayNullify, termsOf, heededOf, acceptedInTime}
 use Rattle.act.proofs.Priced.{act-between, act-priced}
-use Rattle.ruling.specs.Words.{Mills, Contracts, Price, At, None, Agreement, NotMade, OnPrice, ToNullify, Facts, Way, Obvious, Opening, Catastrophic, Cover, UpTo, Every, Source, Ignored, Repriced}
+use Rattle.ruling.specs.Words.{Mills, Contracts, Price, At, None, Agreement, NotMade, OnPrice, ToNullify, Facts, Way, Obvious, Opening, Catastrophic, Origin, Quoted, Official, Source, Ignored, Repriced}
 use Rattle.ruling.specs.Counts.{coveredBy, covered}
 use Rattle.ruling.specs.Ruling.{rulingOf}
 use Rattle.ruling.specs.Laws.{LiesBetween, SumsTo, PricedUpTo}
 use Rattle.ruling.proofs.Walk.{Grounds, each-ruling, heededAt}
 
 -- ---- contracts
-lesser : (size n : Contracts) → coveredBy (UpTo size) n .0 ≤ n .0
+lesser : (size n : Contracts) → coveredBy (Quoted size) n .0 ≤ n .0
 lesser size n = by-test (ltb (size .0) (n .0)) refl where
   by-test : (b : Bool) → ltb (size .0) (n .0) ≡ b → pick b size n .0 ≤ n .0
   by-test true e = omega (arith, ltb-true (size .0) (n .0) e)
   by-test false e = omega arith
 
-covered-within : (way : Way) (cover : Cover) (n : Contracts) → covered way cover n .0 ≤ n .0
-covered-within Obvious cover n = omega arith
-covered-within Opening (UpTo size) n = lesser size n
-covered-within Opening Every n = omega arith
-covered-within Catastrophic cover n = omega arith
+covered-within : (way : Way) (origin : Origin) (n : Contracts) → covered way origin n .0 ≤ n .0
+covered-within Obvious origin n = omega arith
+covered-within Opening (Quoted size) n = lesser size n
+covered-within Opening Official n = omega arith
+covered-within Catastrophic origin n = omega arith
 
 -- adjusted, nullified and standing sum to the contracts traded
 pub sums : (f : Facts) → SumsTo (f .trade .contracts .0) (rulingOf f)
 sums f =
-    each-ruling f (SumsTo (f .trade .contracts .0)) (λ r tp h. omega arith) (omega arith) (λ r tp h. omega arith)
-    (λ way s r p g. omega (arith, covered-within way (s .cover) (f .trade .contracts)))
+    each-ruling f (SumsTo (f .trade .contracts .0)) (λ r h. omega arith) (λ e. omega arith) (λ s r e h n. omega arith) (λ s r e h. omega arith)
+    (λ way s r p g. omega (arith, covered-within way (s .origin) (f .trade .contracts)))
 
 -- ---- prices
 
@@ -49,7 +49,7 @@ not-ten r e h = let k = range-ends 6 9 r h in omega arith
 -- a price set for the reasons 6 to 9 lies between TP and execution
 pub lies-between : (f : Facts) → f .trade .price .0 ≤ largest → LiesBetween (f .trade .price) (rulingOf f)
 lies-between f l =
-    each-ruling f (LiesBetween (f .trade .price)) (λ r tp h k. tt) (λ k. tt) (λ r tp h k. tt)
+    each-ruling f (LiesBetween (f .trade .price)) (λ r h k. tt) (λ e k. tt) (λ s r e h n k. tt) (λ s r e h k. tt)
     (λ way s r p g k.
     ⊎-elim (λ c. absurd (not-ten r (c .0) k))
     (λ c. rw (c .1) at (act-between bands-sound way (f .request .side) (f .buyer) (f .seller) (acceptedInTime (f .settlement .accepted)) (f .trade .price) (s .price) (g .error) l))
@@ -87,4 +87,4 @@ module _ (f : Facts) (top : ℕ) (execution : f .trade .price .0 ≤ top) (bid :
       (g .cause)
 
   pub stays-priced : PricedUpTo top (rulingOf f)
-  stays-priced = each-ruling f (PricedUpTo top) (λ r tp h. tt) tt (λ r tp h. tt) priced
+  stays-priced = each-ruling f (PricedUpTo top) (λ r h. tt) (λ e. tt) (λ s r e h n. tt) (λ s r e h. tt) priced

@@ -5,7 +5,7 @@ use mathlib.Core.Bool.{true}
 use mathlib.Core.Logic.{⊎-elim}
 use native.Mathlib.Omega.{arith}
 use Rattle.wire.specs.Tests.{inRange}
-use Rattle.wire.proofs.Tests.{range-in, range-high, range-ends}
+use Rattle.wire.proofs.Tests.{range-in, range-high, range-ends, range-wider}
 use Rattle.ruling.specs.Words.{Facts, Ruling}
 use Rattle.reasons.specs.Reasons.{reasonOutcome}
 use Rattle.ruling.specs.Outcomes.{outcomeNumber}
@@ -31,5 +31,5 @@ Agrees r = outcomeNumber (r .outcome) ≡ reasonOutcome (r .reason)
 pub reasons-agree : (f : Facts) → Agrees (rulingOf f)
 unfolding reasonOutcome inRange
 reasons-agree f =
-    each-ruling f Agrees (λ r tp h. unrelieved r h) refl (λ r tp h. undone r h)
+    each-ruling f Agrees (λ r h. unrelieved r (range-wider 2 3 1 5 r tt tt h)) (λ e. refl) (λ s r e h n. unrelieved r h) (λ s r e h. undone r h)
     (λ way s r p g. ⊎-elim (λ c. ap reasonOutcome (sym (c .0))) (λ c. let k = range-ends 6 9 r (c .0) in repriced r (range-in 6 10 r (k .0) (omega arith))) (g .cause))

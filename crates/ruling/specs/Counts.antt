@@ -3,18 +3,18 @@ use Prim.Native.Nat.{_-_}
 use lib.Dec.{ltb}
 use Rattle.wire.specs.Tests.{pick}
 use Rattle.facts.specs.Numbers.{contracts}
-use Rattle.ruling.specs.Words.{Contracts, Way, Obvious, Opening, Catastrophic, Cover, UpTo, Every, Counts}
+use Rattle.ruling.specs.Words.{Contracts, Way, Obvious, Opening, Catastrophic, Origin, Quoted, Official, Counts}
 
 -- at most the size of the quote that gave TP, which may be 0; where an official gave it there is no such limit
-abbrev pub coveredBy : Cover → Contracts → Contracts
-coveredBy (UpTo size) n = pick (ltb (size .0) (n .0)) size n
-coveredBy Every n = n
+abbrev pub coveredBy : Origin → Contracts → Contracts
+coveredBy (Quoted size) n = pick (ltb (size .0) (n .0)) size n
+coveredBy Official n = n
 
 -- An adjustment on the opening way covers that many; every other covers every contract.
-abbrev pub covered : Way → Cover → Contracts → Contracts
-covered Obvious cover n = n
-covered Opening cover n = coveredBy cover n
-covered Catastrophic cover n = n
+abbrev pub covered : Way → Origin → Contracts → Contracts
+covered Obvious origin n = n
+covered Opening origin n = coveredBy origin n
+covered Catastrophic origin n = n
 
 -- the rest stand
 abbrev pub restOf : Contracts → Contracts → Contracts

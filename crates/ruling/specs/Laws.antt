@@ -4,6 +4,7 @@ use mathlib.Core.Path.{_≡_}
 use mathlib.Core.Bool.{true}
 use Rattle.wire.specs.Tests.{inRange}
 use Rattle.bands.specs.Between.{Between}
+use Rattle.theory.specs.Theory.{theoryPrice}
 use Rattle.act.specs.Numbers.{IfPriced}
 use Rattle.ruling.specs.Words.{Mills, Price, At, None, Counts, Ruling}
 use Rattle.ruling.specs.Outcomes.{newPrice, countsOf}
@@ -20,7 +21,7 @@ betweenIf execution tp None = Unit {0}
 
 -- A price set for the reasons 6 to 9 lies between TP and execution.
 abbrev pub LiesBetween : Mills → Ruling → Type 0
-LiesBetween execution r = inRange 6 9 (r .reason) ≡ true → betweenIf execution (r .tp) (newPrice (r .outcome))
+LiesBetween execution r = inRange 6 9 (r .reason) ≡ true → betweenIf execution (theoryPrice (r .tp)) (newPrice (r .outcome))
 
 -- Adjusted, nullified and standing sum to the contracts traded.
 abbrev pub SumsTo : ℕ → Ruling → Type 0

@@ -4,3 +4,4 @@ pub mod Ruling
 pub mod Outcomes
 pub mod Laws
 pub mod Numbers
+pub mod Origins

@@ -25,8 +25,8 @@ pub use Rattle.way.specs.declared.Way.{Way}
 pub use Rattle.way.specs.declared.Way.the-variants.{Obvious, Opening, Catastrophic}
 pub use Rattle.way.specs.declared.Open.{Open}
 pub use Rattle.way.specs.declared.Open.the-variants.{By, Closed}
-pub use Rattle.theory.specs.declared.Cover.{Cover}
-pub use Rattle.theory.specs.declared.Cover.the-variants.{UpTo, Every}
+pub use Rattle.theory.specs.declared.Origin.{Origin}
+pub use Rattle.theory.specs.declared.Origin.the-variants.{Quoted, Official}
 pub use Rattle.theory.specs.declared.Source.{Source}
 pub use Rattle.theory.specs.declared.Theory.{Theory}
 pub use Rattle.theory.specs.declared.Theory.the-variants.{Found, Missing}

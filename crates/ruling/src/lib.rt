@@ -12,9 +12,8 @@ use act::Act;
 use agreement::Heeded;
 use facts::Contracts;
 use facts::Mills;
-use facts::Price;
 use facts::Trade;
-use theory::Cover;
+use theory::Origin;
 use theory::Source;
 use theory::Theory;
 use way::Open;
@@ -43,31 +42,31 @@ pub struct Ruling {
     pub trade: u32,
     pub outcome: Outcome,
     pub reason: u8,
-    pub tp: Price,
+    pub tp: Theory,
 }
 
 // ---- contracts
 
-fn covered_by(cover: Cover, contracts: Contracts) -> Contracts
-    ensures { λ r. ⌜ r ≡ coveredBy cover contracts ⌝ }
+fn covered_by(origin: Origin, contracts: Contracts) -> Contracts
+    ensures { λ r. ⌜ r ≡ coveredBy origin contracts ⌝ }
 {
-    match cover {
-        Cover::UpTo(size) => {
+    match origin {
+        Origin::Quoted(size) => {
             if size.0 < contracts.0 {
                 return size;
             }
             contracts
         }
-        Cover::Every => contracts,
+        Origin::Official => contracts,
     }
 }
 
-fn cover_on(way: Way, cover: Cover, contracts: Contracts) -> Contracts
-    ensures { λ r. ⌜ r ≡ covered way cover contracts ⌝ }
+fn cover_on(way: Way, origin: Origin, contracts: Contracts) -> Contracts
+    ensures { λ r. ⌜ r ≡ covered way origin contracts ⌝ }
 {
     match way {
         Way::Obvious => contracts,
-        Way::Opening => covered_by(cover, contracts),
+        Way::Opening => covered_by(origin, contracts),
         Way::Catastrophic => contracts,
     }
 }
@@ -83,7 +82,7 @@ fn rest_of(contracts: Contracts, taken: Contracts) -> Contracts
 
 // ---- the four outcomes
 
-fn no_relief(trade: Trade, reason: u8, tp: Price) -> Ruling
+fn no_relief(trade: Trade, reason: u8, tp: Theory) -> Ruling
     ensures { λ r. ⌜ r ≡ noRelief trade reason tp ⌝ }
 {
     let contracts = trade.contracts;
@@ -111,12 +110,12 @@ fn wait(trade: Trade) -> Ruling
             standing: contracts,
         }),
         reason: 14,
-        tp: Price::None,
+        tp: Theory::Missing,
     }
 }
 
-fn nullify(trade: Trade, reason: u8, tp: Mills) -> Ruling
-    ensures { λ r. ⌜ r ≡ nullify trade reason tp ⌝ }
+fn nullify(trade: Trade, reason: u8, source: Source) -> Ruling
+    ensures { λ r. ⌜ r ≡ nullify trade reason source ⌝ }
 {
     let contracts = trade.contracts;
     Ruling {
@@ -127,7 +126,7 @@ fn nullify(trade: Trade, reason: u8, tp: Mills) -> Ruling
             standing: Contracts(0),
         }),
         reason: reason,
-        tp: Price::At(tp),
+        tp: Theory::Found(source),
     }
 }
 
@@ -135,9 +134,8 @@ fn adjust(trade: Trade, way: Way, source: Source, reason: u8, price: Mills) -> R
     ensures { λ r. ⌜ r ≡ adjust trade way source reason price ⌝ }
 {
     let contracts = trade.contracts;
-    let cover = source.cover;
-    let tp = source.price;
-    let taken = cover_on(way, cover, contracts);
+    let origin = source.origin;
+    let taken = cover_on(way, origin, contracts);
     let rest = rest_of(contracts, taken);
     Ruling {
         trade: trade.number,
@@ -150,7 +148,7 @@ fn adjust(trade: Trade, way: Way, source: Source, reason: u8, price: Mills) -> R
             },
         }),
         reason: reason,
-        tp: Price::At(tp),
+        tp: Theory::Found(source),
     }
 }
 
@@ -159,14 +157,13 @@ fn adjust(trade: Trade, way: Way, source: Source, reason: u8, price: Mills) -> R
 fn carry_out(trade: Trade, way: Way, source: Source, act: Act) -> Ruling
     ensures { λ r. ⌜ r ≡ carriedOut trade way source act ⌝ }
 {
-    let tp = source.price;
     match act {
         Act::Adjust(change) => {
             let price = change.price;
             adjust(trade, way, source, change.reason, price)
         }
-        Act::Nullify(reason) => nullify(trade, reason, tp),
-        Act::Leave(reason) => no_relief(trade, reason, Price::At(tp)),
+        Act::Nullify(reason) => nullify(trade, reason, source),
+        Act::Leave(reason) => no_relief(trade, reason, Theory::Found(source)),
     }
 }
 
@@ -175,9 +172,9 @@ fn settle(case: &[u8], way: Way, source: Source, heeded: Heeded) -> Ruling
     requires { ⌜ length (now case) ≡ 88 ⌝ }
     ensures { λ r. ⌜ r ≡ settled (factsOf (now (case .entry))) way source heeded ⌝ }
 {
-    let tp = source.price;
     match heeded {
         Heeded::Ignored => {
+            let tp = source.price;
             let request = record::request_of(case);
             let side = request.side;
             let settlement = record::settlement_of(case);
@@ -189,7 +186,7 @@ fn settle(case: &[u8], way: Way, source: Source, heeded: Heeded) -> Ruling
             carry_out(record::trade_of(case), way, source, act)
         }
         Heeded::Repriced(price) => adjust(record::trade_of(case), way, source, 10, price),
-        Heeded::Undone => nullify(record::trade_of(case), 13, tp),
+        Heeded::Undone => nullify(record::trade_of(case), 13, source),
     }
 }
 
@@ -209,7 +206,7 @@ fn rule_at(case: &[u8], way: Way, source: Source) -> Ruling
         let heeded = agreement::heed(record::settlement_of(case), way, customer);
         return settle(case, way, source, heeded);
     }
-    no_relief(trade, 1, Price::At(tp))
+    no_relief(trade, 1, Theory::Found(source))
 }
 
 // The theoretical price, then the error; where no one gave a price the case waits.
@@ -236,7 +233,7 @@ fn rule_by(case: &[u8], way: Way) -> Ruling
         Way::Catastrophic => {
             let request = record::request_of(case);
             if request.decided {
-                return no_relief(record::trade_of(case), 3, Price::None);
+                return no_relief(record::trade_of(case), 3, Theory::Missing);
             }
             rule_on(case, way)
         }
@@ -257,6 +254,6 @@ pub fn rule(case: &[u8]) -> Ruling
     let kind = parties::kind_in_error(side, buyer, seller);
     match way::find_way(executed, request, kind) {
         Open::By(way) => rule_by(case, way),
-        Open::Closed => no_relief(trade, 2, Price::None),
+        Open::Closed => no_relief(trade, 2, Theory::Missing),
     }
 }

@@ -1,16 +1,21 @@
--- TP is the quote's price or the official's, whichever comes first, and so within any bound of the market's prices.
+-- TP is the quote's price or the official's, whichever comes first, with its origin, and so within any bound of the market's prices.
 use Prim.Native.Nat.{ℕ, _≤_}
 use mathlib.Core.Path.{_≡_, refl, sym, ap, _∙_}
 use mathlib.Core.Bool.{true}
 use borrow.Author.Tests.{leb-true}
 use Rattle.facts.specs.Numbers.{priceNumber}
 use Rattle.theory.specs.Words.{Contracts, Price, At, None, Side, Buy, Sell, Market, Source, Found}
-use Rattle.theory.specs.Theory.{quoteFor, sourceOf, theoryOf, theoryPrice, theoryNumber, orElse, upTo}
+use Rattle.theory.specs.Theory.{quoteFor, sourceOf, theoryOf, theoryPrice, theoryNumber, orElse, theoryOrigin, originAmong, upTo}
 
 source-price : (p : Price) (size : Contracts) (official : Price) → theoryPrice (sourceOf p size official) ≡ orElse p official
 source-price (At p) size official = refl
 source-price None size (At p) = refl
 source-price None size None = refl
+
+source-origin : (p : Price) (size : Contracts) (official : Price) → theoryOrigin (sourceOf p size official) ≡ originAmong p official
+source-origin (At p) size official = refl
+source-origin None size (At p) = refl
+source-origin None size None = refl
 
 or-else-up-to : (k : ℕ) (p q : Price) → upTo k p ≡ true → upTo k q ≡ true → upTo k (orElse p q) ≡ true
 or-else-up-to k (At m) q hp hq = hp
@@ -29,6 +34,11 @@ module _ (side : Side) (m : Market) where
   -- TP's number is that of the first price there is, or the mark none
   pub theory-number : theoryNumber (theoryOf side m) ≡ priceNumber (orElse (quoteFor side m .price) (m .official))
   theory-number = ap priceNumber theory-price
+
+  -- and its origin is 1, 2 or 0 by which price that is
+  pub theory-origin : theoryOrigin (theoryOf side m) ≡ originAmong (quoteFor side m .price) (m .official)
+  unfolding theoryOf
+  theory-origin = source-origin (quoteFor side m .price) _ (m .official)
 
   -- a TP found among prices of at most k is at most k
   pub theory-priced : (k : ℕ) (s : Source) → upTo k (m .bid .price) ≡ true → upTo k (m .offer .price) ≡ true → upTo k (m .official) ≡ true

@@ -1,23 +1,23 @@
--- The theoretical price, TP (RULE R5; document 003 (a)(2)).
+-- The theoretical price, TP, and its origin (RULE R5; document 003 (a)(2)).
 use Prim.Native.Nat.{ℕ}
 use mathlib.Core.Bool.{Bool, true}
 use lib.Dec.{leb}
 use Rattle.facts.specs.Numbers.{priceNumber}
-use Rattle.theory.specs.Words.{Contracts, Price, At, None, Side, Buy, Sell, Quote, Market, UpTo, Every, Theory, Found, Missing}
+use Rattle.theory.specs.Words.{Contracts, Price, At, None, Side, Buy, Sell, Quote, Market, Origin, Quoted, Official, Theory, Found, Missing}
 
 -- A buy is held against the best offer, a sell against the best bid (RULE R5.1).
 abbrev pub quoteFor : Side → Market → Quote
 quoteFor Buy m = m .offer
 quoteFor Sell m = m .bid
 
--- An official's price covers every contract; where it is none as well, there is no TP and the case waits (RULE R5.3, R9.3).
+-- An official gives it for every contract; where that price is none as well, there is no TP and the case waits (RULE R5.3, R9.3).
 abbrev pub officialSource : Price → Theory
-officialSource (At p) = Found (record { price = p; cover = Every })
+officialSource (At p) = Found (record { price = p; origin = Official })
 officialSource None = Missing
 
--- A quote's price covers as many contracts as the quote has (RULE R9.1); where it is none, the official's price is taken (RULE R5.2).
+-- A quote gives its price for as many contracts as it has (RULE R9.1); where that price is none, the official's is taken (RULE R5.2).
 abbrev pub sourceOf : Price → Contracts → Price → Theory
-sourceOf (At p) size official = Found (record { price = p; cover = UpTo size })
+sourceOf (At p) size official = Found (record { price = p; origin = Quoted size })
 sourceOf None size official = officialSource official
 
 unfoldable pub theoryOf : Side → Market → Theory
@@ -37,6 +37,21 @@ theoryNumber t = priceNumber (theoryPrice t)
 abbrev pub orElse : Price → Price → Price
 orElse (At p) other = At p
 orElse None other = other
+
+-- ---- its origin as a number: 1 a quote, 2 an official, 0 where there is no TP (RULE R5.4)
+abbrev pub originNumber : Origin → ℕ
+originNumber (Quoted size) = 1
+originNumber Official = 2
+
+abbrev pub theoryOrigin : Theory → ℕ
+theoryOrigin (Found s) = originNumber (s .origin)
+theoryOrigin Missing = 0
+
+-- the same from the prices alone, a quote's and an official's: 1 where the first is there, else 2 where the second is, else 0
+abbrev pub originAmong : Price → Price → ℕ
+originAmong (At p) official = 1
+originAmong None (At p) = 2
+originAmong None None = 0
 
 -- none, or at most k mills
 abbrev pub upTo : ℕ → Price → Bool

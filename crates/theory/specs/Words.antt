@@ -6,8 +6,8 @@ pub use Rattle.facts.specs.declared.Side.{Side}
 pub use Rattle.facts.specs.declared.Side.the-variants.{Buy, Sell}
 pub use Rattle.facts.specs.declared.Quote.{Quote}
 pub use Rattle.facts.specs.declared.Market.{Market}
-pub use Rattle.theory.specs.declared.Cover.{Cover}
-pub use Rattle.theory.specs.declared.Cover.the-variants.{UpTo, Every}
+pub use Rattle.theory.specs.declared.Origin.{Origin}
+pub use Rattle.theory.specs.declared.Origin.the-variants.{Quoted, Official}
 pub use Rattle.theory.specs.declared.Source.{Source}
 pub use Rattle.theory.specs.declared.Theory.{Theory}
 pub use Rattle.theory.specs.declared.Theory.the-variants.{Found, Missing}

@@ -1,9 +1,8 @@
-// The theoretical price (TP) of a trade, from the market's quotes or from an official, together with how many
-// contracts an opening adjustment to it may cover. Refuses nothing: where no one gave a price the answer says so,
-// and the ruling lets the case wait. No price is compared here: TP is one of the three prices, as it stands.
+// The theoretical price (TP) of a trade and its origin: a quote of the market, with its size, or an official. Refuses nothing: where no one
+// gave a price the answer says so, and the ruling lets the case wait. No price is compared here: TP is one of the three prices, as it stands.
 ghost use mathlib.Core.Path.{_≡_};
 ghost use Rattle.facts.specs.Numbers.{priceNumber};
-ghost use Rattle.theory.specs.Theory.{quoteFor, orElse, sourceOf, theoryOf, theoryNumber};
+ghost use Rattle.theory.specs.Theory.{quoteFor, sourceOf, theoryOf, theoryNumber, orElse, originNumber, theoryOrigin, originAmong};
 use facts::Contracts;
 use facts::Market;
 use facts::Mills;
@@ -11,16 +10,16 @@ use facts::Price;
 use facts::Quote;
 use facts::Side;
 
-// What an opening adjustment may cover: up to the size of the quote that gave TP, or every contract where an
-// official gave it.
-pub enum Cover {
-    UpTo(Contracts),
-    Every,
+// Who gave TP: a quote, with the size up to which an opening adjustment may cover contracts, or an official, without such a limit. One value
+// says both, so that what is told of the origin and what is covered cannot disagree.
+pub enum Origin {
+    Quoted(Contracts),
+    Official,
 }
 
 pub struct Source {
     pub price: Mills,
-    pub cover: Cover,
+    pub origin: Origin,
 }
 
 pub enum Theory {
@@ -48,24 +47,61 @@ fn take_source(quote: Quote, official: Price) -> Theory
             let size = quote.size;
             Theory::Found(Source {
                 price: m,
-                cover: Cover::UpTo(size),
+                origin: Origin::Quoted(size),
             })
         }
         Price::None => match official {
             Price::At(m) => Theory::Found(Source {
                 price: m,
-                cover: Cover::Every,
+                origin: Origin::Official,
             }),
             Price::None => Theory::Missing,
         },
     }
 }
 
-// The theoretical price for the side in error.
+// The theoretical price for the side in error, and its origin.
 pub fn find_theory(side: Side, market: Market) -> Theory
-    ensures { λ r. ⌜ (r ≡ theoryOf side market) × (theoryNumber r ≡ priceNumber (orElse (quoteFor side market .price) (market .official))) ⌝ }
+    ensures { λ r. ⌜ (r ≡ theoryOf side market) × (theoryNumber r ≡ priceNumber (orElse (quoteFor side market .price) (market .official))) × (theoryOrigin r ≡ originAmong (quoteFor side market .price) (market .official)) ⌝ }
 {
     let quote = quote_for(side, market);
     let official = market.official;
     take_source(quote, official)
+}
+
+// ---- in the page's numbers
+
+// TP: 4,294,967,295 where there is none.
+pub fn tp_number(found: Theory) -> u32
+    ensures { λ r. ⌜ r ≡ theoryNumber found ⌝ }
+{
+    match found {
+        Theory::Found(source) => {
+            let tp = source.price;
+            tp.0
+        }
+        Theory::Missing => facts::price_number(Price::None),
+    }
+}
+
+fn number_of(origin: Origin) -> u8
+    ensures { λ r. ⌜ r ≡ originNumber origin ⌝ }
+{
+    match origin {
+        Origin::Quoted(_) => 1,
+        Origin::Official => 2,
+    }
+}
+
+// Its origin: 1 a quote, 2 an official; 0 where there is no TP.
+pub fn origin_number(found: Theory) -> u8
+    ensures { λ r. ⌜ r ≡ theoryOrigin found ⌝ }
+{
+    match found {
+        Theory::Found(source) => {
+            let origin = source.origin;
+            number_of(origin)
+        }
+        Theory::Missing => 0,
+    }
 }

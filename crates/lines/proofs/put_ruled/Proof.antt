@@ -23,8 +23,8 @@ add-price-requires c κs = search needs
 add-price-requires-2 : tie.Need-add-price-requires-2
 add-price-requires-2 c κs = search needs
 
-add-counts-requires : tie.Need-add-counts-requires
-add-counts-requires c κs = search needs
+add-last-requires : tie.Need-add-last-requires
+add-last-requires c κs = search needs
 
 same-length : tie.Need-same-length
 same-length c = search needs
@@ -43,7 +43,7 @@ returns c =
     let r3 = ran-next _ _ _ _ _ _ _ r2 (c3 .add-number2 .ensures .0) (c3 .add-number2 .ensures .1) in
     let r4 = ran-next _ _ _ _ _ _ _ r3 (c4 .add-price .ensures .0) (c4 .add-price .ensures .1) in
     let r5 = ran-next _ _ _ _ _ _ _ r4 (c5 .add-price2 .ensures .0) (c5 .add-price2 .ensures .1) in
-    rw (← five-more _ _ _ _ _ _ _) (ran-next _ _ _ _ _ _ _ r5 (c6 .add-counts .ensures .0) (c6 .add-counts .ensures .1))
+    rw (← five-more _ _ _ _ _ _ _) (ran-next _ _ _ _ _ _ _ r5 (c6 .add-last .ensures .0) (c6 .add-last .ensures .1))
 
 pub put-ruled-spec : {M : Type 1} → statement M
 put-ruled-spec =
@@ -55,6 +55,6 @@ put-ruled-spec =
     add-number-requires-2
     add-price-requires
     add-price-requires-2
-    add-counts-requires
+    add-last-requires
     same-length
     returns)

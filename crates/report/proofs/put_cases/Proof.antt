@@ -10,13 +10,13 @@ use Rattle.report.proofs.put_cases.Statement.{statement}
 use Rattle.report.proofs.put_cases.Tie as tie
 
 abbrev Inv-loop : tie.InvT-loop
-Inv-loop sheet out₀ n i₀ at₀ ruled₀ out i at ruled = Turn caseLine 85 sheet out₀ out i at ruled
+Inv-loop sheet out₀ n i₀ at₀ ruled₀ out i at ruled = Turn caseLine 96 sheet out₀ out i at ruled
 
 abbrev μ-loop : tie.MeasureT-loop
 μ-loop sheet out₀ n i₀ at₀ ruled₀ out i at ruled = n - i
 
 loop-holds : tie.Need-loop-holds Inv-loop μ-loop
-loop-holds c = first caseLine 85 _ _
+loop-holds c = first caseLine 96 _ _
 
 mul-from : tie.Need-mul-from Inv-loop μ-loop
 mul-from c = omega arith
@@ -64,7 +64,7 @@ loop-again : tie.Need-loop-again Inv-loop μ-loop
 loop-again c =
     let e = c .before .before .before .before in
     let l = e .before .before .before .before in
-    next caseLine 85 line-most _ _ _ _ _ _ _ _ _ (l .loop .inv) (e .before .before .before .loop-test .taken) (e .put-case .ensures) (c .before .before .before .out .given .1)
+    next caseLine 96 line-most _ _ _ _ _ _ _ _ _ (l .loop .inv) (e .before .before .before .loop-test .taken) (e .put-case .ensures) (c .before .before .before .out .given .1)
 
 same-length : tie.Need-same-length Inv-loop μ-loop
 same-length c = omega arith

@@ -1,7 +1,7 @@
 use Prim.Native.Nat.{ℕ}
 use mathlib.Core.Path.{_≡_}
 use Rattle.facts.specs.Numbers.{contracts}
-use Rattle.ruling.specs.Words.{Contracts, Mills, At, Trade, Way, Source, Ruling, Adjusted}
+use Rattle.ruling.specs.Words.{Contracts, Mills, Trade, Way, Source, Found, Ruling, Adjusted}
 use Rattle.ruling.specs.Counts.{covered, restOf, counts}
 use Rattle.ruling.specs.Ruling.{adjust}
 use borrow.Author.Needs.{needs}
@@ -14,11 +14,11 @@ covering t s reason price taken rest =
       trade = t .number;
       outcome = Adjusted (record { price = price; counts = counts taken (contracts 0) rest });
       reason = reason;
-      tp = At (s .price);
+      tp = Found s;
     }
 
 built : (t : Trade) (way : Way) (s : Source) (reason : ℕ) (price : Mills) {taken rest : Contracts}
-    → taken ≡ covered way (s .cover) (t .contracts)
+    → taken ≡ covered way (s .origin) (t .contracts)
     → rest ≡ restOf (t .contracts) taken
     → covering t s reason price taken rest ≡ adjust t way s reason price
 built t way s reason price taken rest = cc
@@ -31,7 +31,7 @@ rest-of-requires c κs = search needs
 
 returns : tie.Need-returns
 returns c =
-    let a = c .before .before .before .before .args in
+    let a = c .before .before .before .args in
     built (a .trade) (a .way) (a .source) (a .reason) (a .price) (c .before .cover-on .ensures) (c .rest-of .ensures)
 
 pub adjust-spec : {M : Type 1} → statement M

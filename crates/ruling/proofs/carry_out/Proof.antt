@@ -23,13 +23,13 @@ no-relief-requires : tie.Need-no-relief-requires
 no-relief-requires c κs = search needs
 
 returns : tie.Need-returns
-returns c = let e : c .before .before .before .before .before .before .args .act ≡ Adjust _ = c .before .before .before .act .given .1 in simp e (c .adjust .ensures)
+returns c = let e : c .before .before .before .before .before .args .act ≡ Adjust _ = c .before .before .before .act .given .1 in simp e (c .adjust .ensures)
 
 returns-2 : tie.Need-returns-2
-returns-2 c = let e : c .before .before .before .before .before .args .act ≡ Nullify _ = c .before .before .act2 .given .1 in simp e (c .nullify .ensures)
+returns-2 c = let e : c .before .before .before .before .args .act ≡ Nullify _ = c .before .before .act2 .given .1 in simp e (c .nullify .ensures)
 
 returns-3 : tie.Need-returns-3
-returns-3 c = let e : c .before .before .before .before .before .args .act ≡ Leave _ = c .before .before .act3 .given .1 in simp e (c .no-relief .ensures)
+returns-3 c = let e : c .before .before .before .before .args .act ≡ Leave _ = c .before .before .act3 .given .1 in simp e (c .no-relief .ensures)
 
 pub carry-out-spec : {M : Type 1} → statement M
 carry-out-spec =

@@ -5,7 +5,7 @@ use mathlib.Core.List.{List}
 use Rattle.record.specs.Record.{tradeOf, requestOf, partyAt, factsOf}
 use Rattle.parties.specs.Parties.{bySide}
 use Rattle.way.specs.Way.{wayOf}
-use Rattle.ruling.specs.Words.{None, Kind, Trade, Request, Open, Ruling}
+use Rattle.ruling.specs.Words.{Kind, Trade, Request, Open, Missing, Ruling}
 use Rattle.ruling.specs.Ruling.{noRelief, ruledIf, rulingOf}
 use Rattle.ruling.proofs.Numbers.{ruled}
 use borrow.Author.Needs.{needs}
@@ -82,7 +82,7 @@ returns-2 c =
     (by-way _
     (trade .trade-of .ensures) (request .request-of .ensures) (buyer .buyer-kind .ensures) (seller .seller-kind .ensures)
     (kind .kind-in-error .ensures .0) (way .find-way .ensures) (c .before .enum-told .given .1)
-    (c .no-relief .ensures ∙ ap (λ (t : Trade). noRelief t 2 None) (trade .trade-of .ensures)))
+    (c .no-relief .ensures ∙ ap (λ (t : Trade). noRelief t 2 Missing) (trade .trade-of .ensures)))
 
 pub rule-spec : {M : Type 1} → statement M
 rule-spec =

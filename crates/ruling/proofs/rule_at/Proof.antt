@@ -9,7 +9,7 @@ use Rattle.parties.specs.Parties.{anyCustomer}
 use Rattle.record.specs.Record.{tradeOf, requestOf, partyAt, settlementOf, factsOf}
 use Rattle.agreement.specs.Agreed.{heededOf}
 use Rattle.act.specs.Minimum.{minimumOf}
-use Rattle.ruling.specs.Words.{Mills, At, Kind, Band, Trade, Request, Settlement, Way, Source, Heeded, Ruling}
+use Rattle.ruling.specs.Words.{Mills, Kind, Band, Trade, Request, Settlement, Way, Source, Found, Heeded, Ruling}
 use Rattle.ruling.specs.Ruling.{noRelief, settled, ruledAt}
 use borrow.Author.Needs.{needs}
 use Rattle.ruling.proofs.rule_at.Statement.{statement}
@@ -36,9 +36,9 @@ module _ (s : List ℕ) (way : Way) (source : Source) {trade : Trade} {request :
       let f : heeded ≡ heededOf (settlementOf s) way (anyCustomer (partyAt s 48 64 .kind) (partyAt s 56 65 .kind)) = cc in
       simp (in-error true h) (ruled ∙ ap (settled (factsOf s) way source) f)
 
-  not-off : {r : Ruling} → wrong ≡ false → r ≡ noRelief trade 1 (At (source .price)) → r ≡ ruledAt (factsOf s) way source
+  not-off : {r : Ruling} → wrong ≡ false → r ≡ noRelief trade 1 (Found source) → r ≡ ruledAt (factsOf s) way source
   unfolding factsOf ruledAt
-  not-off h e = simp (in-error false h) (e ∙ ap (λ (t : Trade). noRelief t 1 (At (source .price))) traded)
+  not-off h e = simp (in-error false h) (e ∙ ap (λ (t : Trade). noRelief t 1 (Found source)) traded)
 
 trade-of-requires : tie.Need-trade-of-requires
 trade-of-requires c κs = search needs

@@ -1,7 +1,7 @@
 use mathlib.Core.Path.{_≡_, sym, ap, _∙_}
 use mathlib.Core.Bool.{true, false}
 use Rattle.record.specs.Record.{factsOf}
-use Rattle.ruling.specs.Words.{None, Trade, Request, Facts, Way, Obvious, Opening, Catastrophic, Ruling}
+use Rattle.ruling.specs.Words.{Trade, Request, Facts, Way, Obvious, Opening, Catastrophic, Missing, Ruling}
 use Rattle.ruling.specs.Ruling.{noRelief, ruledOn, ruledBy}
 use borrow.Author.Needs.{needs}
 use Rattle.ruling.proofs.rule_by.Statement.{statement}
@@ -16,7 +16,7 @@ module _ (f : Facts) {way : Way} {r : Ruling} where
   unfolding ruledBy
   by-opening w e = simp w (e ∙ ap (ruledOn f) w)
 
-  decided : way ≡ Catastrophic → f .request .decided ≡ true → r ≡ noRelief (f .trade) 3 None → r ≡ ruledBy f way
+  decided : way ≡ Catastrophic → f .request .decided ≡ true → r ≡ noRelief (f .trade) 3 Missing → r ≡ ruledBy f way
   unfolding ruledBy
   decided w d e = simp (w, d) e
 
@@ -53,7 +53,7 @@ unfolding factsOf
 returns c =
     let request = c .before .before .before in
     decided _ (request .before .enum-told3 .given .1) (ap (λ (r : Request). r .decided) (sym (request .request-of .ensures)) ∙ c .before .before .if1 .taken)
-    (c .no-relief .ensures ∙ ap (λ (t : Trade). noRelief t 3 None) (c .before .trade-of .ensures))
+    (c .no-relief .ensures ∙ ap (λ (t : Trade). noRelief t 3 Missing) (c .before .trade-of .ensures))
 
 rule-on-requires-3 : tie.Need-rule-on-requires-3
 rule-on-requires-3 c κs = search needs

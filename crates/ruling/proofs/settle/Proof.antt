@@ -85,7 +85,7 @@ returns c =
     let told = buyer .before in
     let settlement = told .before in
     let request = settlement .before in
-    let e : request .before .before .before .before .before .args .heeded ≡ Ignored = request .before .enum-told .given .1 in
+    let e : request .before .before .before .before .before .args .heeded ≡ Ignored = request .before .before .enum-told .given .1 in
     simp e
     (acted _ _ _
     (request .request-of .ensures)
@@ -101,7 +101,7 @@ returns c =
 returns-2 : tie.Need-returns-2
 unfolding factsOf
 returns-2 c =
-    let e : c .before .before .before .before .before .before .before .args .heeded ≡ Repriced _ = c .before .before .before .heeded .given .1 in
+    let e : c .before .before .before .before .before .before .args .heeded ≡ Repriced _ = c .before .before .before .heeded .given .1 in
     simp (e, ← c .before .trade-of2 .ensures) (c .adjust .ensures)
 
 returns-3 : tie.Need-returns-3
