@@ -4,11 +4,13 @@
  * They ask nothing of the caller but valid pointers, each to as many bytes as its length says, and buffers that do not
  * overlap. Beside a length of 0 the pointer may be NULL. Any bytes may be given: what is not a case, a sheet or a list of
  * quotes gets the number of the first test that it fails (from desk_quotes_before, which has no room for it, 0). They keep no
- * state and allocate nothing. Of the stack desk_check_case takes 80 bytes, desk_rule_case 184, desk_rule_sheet 216 and
- * desk_print_sheet 264, as measured; those for quotes were not.
+ * state and allocate nothing. Of the stack desk_check_case takes 80 bytes, desk_rule_case 176, desk_rule_sheet 208 and
+ * desk_print_sheet 256, as measured; those for quotes were not.
  *
  * A program that was compiled when struct desk_best had five numbers, and desk_best_quotes three arguments, must be compiled
- * again: the linker does not see the difference. */
+ * again: the linker does not see the difference. One that was written when bytes 10 and 11 of a ruling were both zero, and a
+ * printed line had eight fields, must be looked at where it reads them: byte 10 tells the origin of the theoretical price, and
+ * so does a ninth field, FROM. */
 #ifndef DESK_H
 #define DESK_H
 
@@ -118,7 +120,8 @@ extern "C" {
 #define DESK_RULING_AT_TRADE 4u      /* 4: trade number */
 #define DESK_RULING_AT_OUTCOME 8u    /* 1: DESK_NO_RELIEF to DESK_WAITING */
 #define DESK_RULING_AT_REASON 9u     /* 1: DESK_REASON_.. */
-#define DESK_RULING_AT_ZERO 10u      /* 2: zero */
+#define DESK_RULING_AT_ORIGIN 10u    /* 1: what gave the theoretical price, DESK_ORIGIN_NONE to DESK_ORIGIN_OFFICIAL */
+#define DESK_RULING_AT_ZERO 11u      /* 1: zero */
 #define DESK_RULING_AT_TP 12u        /* 4: theoretical price, or none (none also for reasons 2 and 3) */
 #define DESK_RULING_AT_NEW_PRICE 16u /* 4: none unless adjusted */
 #define DESK_RULING_AT_ADJUSTED 20u  /* 4: contracts adjusted */
@@ -143,6 +146,10 @@ extern "C" {
 #define DESK_ADJUSTED 1u
 #define DESK_NULLIFIED 2u
 #define DESK_WAITING 3u
+
+#define DESK_ORIGIN_NONE 0u     /* TP is none: for reasons 2, 3 and 14, and no other; a quote may stand in the case all the same */
+#define DESK_ORIGIN_QUOTE 1u    /* TP is the best offer of a buy, the best bid of a sell */
+#define DESK_ORIGIN_OFFICIAL 2u /* that quote is none, and TP the official's price */
 
 #define DESK_REASON_NO_ERROR 1u                   /* no relief: execution is not off TP by the minimum, in the side's direction */
 #define DESK_REASON_LATE 2u                       /* no relief: no way is open */
@@ -217,7 +224,13 @@ uint32_t desk_rule_case(const uint8_t *record, size_t len, uint8_t *out, size_t 
 struct desk_sheet desk_rule_sheet(const uint8_t *sheet, size_t len, uint8_t *out, size_t out_len);
 
 /* Prints the rulings of a sheet at `out`, as lines of text, and gives the bytes of text. No zero byte ends them; the bytes
- * after them are kept. A sheet refused whole prints one line that says so. */
+ * after them are kept. The first line is
+ *
+ *     TRADE OUTCOME REASON TP NEW ADJ NUL OLD FROM
+ *
+ * and a ruled case has a line of these fields, FROM being the number at DESK_RULING_AT_ORIGIN. Such a line is reckoned at 96
+ * bytes at most (eight numbers of ten digits at most and the outcome's seven letters, each with the byte after it), so that
+ * DESK_TEXT_BYTES have room for DESK_SHEET_CASES of them. A sheet refused whole prints one line that says so. */
 uint64_t desk_print_sheet(const uint8_t *sheet, size_t len, uint8_t (*out)[DESK_TEXT_BYTES]);
 
 /* Looks up the best bid and offer at a trade: of each exchange the last quote strictly before `trade_time` counts, the later

@@ -1,5 +1,5 @@
-/* Every field of a case record and of a quote, written under the header's names, each with a value of its own: the test compares
- * the 88 and the 28 bytes with those of the harness's own records. */
+/* Every field of a case record, of a quote and of a ruling, written under the header's names, each with a value of its own: the
+ * test compares the 88, the 28 and the 32 bytes with those of the harness's own records. */
 
 #include <stdio.h>
 #include <string.h>
@@ -54,12 +54,30 @@ static void put_quote(uint8_t record[DESK_QUOTE_BYTES])
     put_u32(record + DESK_QUOTE_AT_OFFER_SIZE, 204);
 }
 
+static void put_ruling(uint8_t record[DESK_RULING_BYTES])
+{
+    memset(record, 255, DESK_RULING_BYTES);
+    put_u16(record + DESK_AT_LENGTH, DESK_RULING_BYTES);
+    put_u16(record + DESK_AT_KIND, DESK_KIND_RULING);
+    put_u32(record + DESK_RULING_AT_TRADE, 301);
+    record[DESK_RULING_AT_OUTCOME] = DESK_ADJUSTED;
+    record[DESK_RULING_AT_REASON] = DESK_REASON_OPENING;
+    record[DESK_RULING_AT_ORIGIN] = DESK_ORIGIN_OFFICIAL;
+    record[DESK_RULING_AT_ZERO] = 0;
+    put_u32(record + DESK_RULING_AT_TP, 302);
+    put_u32(record + DESK_RULING_AT_NEW_PRICE, 303);
+    put_u32(record + DESK_RULING_AT_ADJUSTED, 304);
+    put_u32(record + DESK_RULING_AT_NULLIFIED, 305);
+    put_u32(record + DESK_RULING_AT_STANDING, 306);
+}
+
 int main(void)
 {
-    uint8_t records[DESK_CASE_BYTES + DESK_QUOTE_BYTES];
+    uint8_t records[DESK_CASE_BYTES + DESK_QUOTE_BYTES + DESK_RULING_BYTES];
 
     put_case(records);
     put_quote(records + DESK_CASE_BYTES);
+    put_ruling(records + DESK_CASE_BYTES + DESK_QUOTE_BYTES);
     if (fwrite(records, 1, sizeof records, stdout) != sizeof records || fflush(stdout) != 0) {
         fputs("standard output cannot be written\n", stderr);
         return 2;

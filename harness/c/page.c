@@ -1,5 +1,6 @@
-/* The desk called from C: the page's own sheet of three cases is ruled, its answers are read and its rulings printed. It ends
- * with 1 where an answer is another, with 2 where the text cannot be written. */
+/* The desk called from C: the page's own sheet of three cases is ruled, its answers are read and its rulings printed; and its
+ * first case with other prices, for each origin of TP. It ends with 1 where an answer is another, with 2 where the text cannot be
+ * written. */
 
 #include <stdio.h>
 #include <string.h>
@@ -64,14 +65,15 @@ static int begins(const uint8_t *record, uint32_t length, uint32_t kind)
     return get_u16(record + DESK_AT_LENGTH) == length && get_u16(record + DESK_AT_KIND) == kind;
 }
 
-/* Trade 2: adjusted to 2.000, 20 of its 30 contracts; 10 stand. */
+/* Trade 2: adjusted to the bid of 2.000, 20 of its 30 contracts; 10 stand. */
 static int is_second_ruling(const uint8_t *ruling)
 {
     return begins(ruling, DESK_RULING_BYTES, DESK_KIND_RULING) && get_u32(ruling + DESK_RULING_AT_TRADE) == 2 &&
            ruling[DESK_RULING_AT_OUTCOME] == DESK_ADJUSTED && ruling[DESK_RULING_AT_REASON] == DESK_REASON_OPENING &&
-           get_u16(ruling + DESK_RULING_AT_ZERO) == 0 && get_u32(ruling + DESK_RULING_AT_TP) == 2000 &&
-           get_u32(ruling + DESK_RULING_AT_NEW_PRICE) == 2000 && get_u32(ruling + DESK_RULING_AT_ADJUSTED) == 20 &&
-           get_u32(ruling + DESK_RULING_AT_NULLIFIED) == 0 && get_u32(ruling + DESK_RULING_AT_STANDING) == 10;
+           ruling[DESK_RULING_AT_ORIGIN] == DESK_ORIGIN_QUOTE && ruling[DESK_RULING_AT_ZERO] == 0 &&
+           get_u32(ruling + DESK_RULING_AT_TP) == 2000 && get_u32(ruling + DESK_RULING_AT_NEW_PRICE) == 2000 &&
+           get_u32(ruling + DESK_RULING_AT_ADJUSTED) == 20 && get_u32(ruling + DESK_RULING_AT_NULLIFIED) == 0 &&
+           get_u32(ruling + DESK_RULING_AT_STANDING) == 10;
 }
 
 static int is_second_notice(const uint8_t *notice, uint8_t recipient, const char *own, const char *other)
@@ -96,6 +98,40 @@ static int is_third_refused(const uint8_t *refused)
     return begins(refused, DESK_REFUSED_BYTES, DESK_KIND_REFUSED) && get_u32(refused + DESK_REFUSED_AT_INDEX) == 2 &&
            get_u16(refused + DESK_REFUSED_AT_NUMBER) == DESK_REFUSAL_CONTRACTS_OR_SIZE &&
            get_u16(refused + DESK_REFUSED_AT_ZERO) == 0;
+}
+
+/* Is the case ruled with that TP and that origin of it? */
+static int is_from(const uint8_t record[DESK_CASE_BYTES], uint32_t tp, uint8_t origin)
+{
+    uint8_t answer[DESK_ANSWER_BYTES];
+    const uint8_t *ruling = answer + DESK_ANSWER_AT_RULING;
+
+    return desk_rule_case(record, DESK_CASE_BYTES, answer, sizeof answer) == 0 &&
+           get_u32(ruling + DESK_RULING_AT_TP) == tp && ruling[DESK_RULING_AT_ORIGIN] == origin;
+}
+
+/* What is wrong with the origins of TP; NULL if nothing is. */
+static const char *fault_of_origins(const uint8_t first[DESK_CASE_BYTES])
+{
+    uint8_t record[DESK_CASE_BYTES];
+
+    /* Beside an offer of 1.000 an official's price of 1.100 has no say. */
+    memcpy(record, first, sizeof record);
+    put_u32(record + DESK_CASE_AT_OFFICIAL, 1100);
+    if (!is_from(first, 1000, DESK_ORIGIN_QUOTE) || !is_from(record, 1000, DESK_ORIGIN_QUOTE))
+        return "desk_rule_case: another origin than the quote";
+    record[DESK_CASE_AT_DAY] = DESK_LATER;
+    if (!is_from(record, DESK_NONE, DESK_ORIGIN_NONE))
+        return "desk_rule_case: an origin beside reason 2";
+    record[DESK_CASE_AT_DAY] = DESK_TRADE_DATE;
+    put_u32(record + DESK_CASE_AT_OFFER, DESK_NONE);
+    put_u32(record + DESK_CASE_AT_OFFER_SIZE, 0);
+    if (!is_from(record, 1100, DESK_ORIGIN_OFFICIAL))
+        return "desk_rule_case: another origin than the official";
+    put_u32(record + DESK_CASE_AT_OFFICIAL, DESK_NONE);
+    if (!is_from(record, DESK_NONE, DESK_ORIGIN_NONE))
+        return "desk_rule_case: an origin while the case waits";
+    return NULL;
 }
 
 /* What is wrong with the answers to the sheet; NULL if nothing is. */
@@ -131,6 +167,8 @@ int main(void)
 
     put_sheet(sheet);
     found = fault(sheet);
+    if (!found)
+        found = fault_of_origins(sheet);
     if (found) {
         fprintf(stderr, "%s\n", found);
         return 1;

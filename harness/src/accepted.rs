@@ -230,12 +230,13 @@ fn any_price(random: &mut Random, tp: u32, amount: u32) -> u32 {
     }
 }
 
-/// The official's price: TP where the quote is none, mostly; beside a quote anything.
+/// The official's price: where the quote is none, TP mostly, and now and then none too; beside a
+/// quote anything, the same price and none among it.
 fn official(random: &mut Random, quote: u32, tp: u32, amount: u32) -> u32 {
-    if quote == NONE && !random.once_in(4) {
-        tp
-    } else {
-        any_price(random, tp, amount)
+    match random.within(0, 7) {
+        0..=5 if quote == NONE => tp,
+        6 if quote == NONE => NONE,
+        _ => any_price(random, tp, amount),
     }
 }
 

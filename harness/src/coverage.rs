@@ -1,14 +1,15 @@
 //! What a run has reached, counted: a comparison is worth as much as the rules that its cases
 //! reach.
 //!
-//! Numbers, outcomes and reasons are read from the answers on which both desks agree; way, TP and
-//! band come from the independent desk.
+//! Numbers, outcomes, reasons and origins are read from the answers on which both desks agree; way,
+//! TP and band come from the independent desk, and which prices stand in a record from its fields.
 
 use std::collections::BTreeMap;
 use std::fmt;
 
 use crate::compare::CaseAnswer;
-use crate::page::{self, Case, Side, TheoreticalPrice, Way};
+use crate::fields::{Fields, RulingFields, NONE};
+use crate::page::{self, Case, Mills, Side, Way};
 
 /// Something that a case can reach.
 #[derive(Clone, Copy, Debug, PartialEq, Eq, PartialOrd, Ord)]
@@ -18,8 +19,20 @@ enum Reached {
     Outcome(u8),
     Reason(u8),
     Way(&'static str),
-    /// What gave TP.
-    Source(&'static str),
+    /// The origin of TP that is told with this reason.
+    Origin {
+        reason: u8,
+        origin: u8,
+    },
+    /// The origin that is told over these prices, where TP is asked for and where it is not.
+    Prices {
+        asked: &'static str,
+        side: &'static str,
+        prices: Prices,
+        origin: u8,
+    },
+    /// What gave a TP of zero.
+    Zero(&'static str),
     /// How much of the trade an adjustment on the opening way covers.
     Cover(&'static str),
     /// Execution at the minimum of this band, or one mill short.
@@ -33,7 +46,13 @@ enum Reached {
 
 const NUMBERS: [u32; 10] = [0, 2, 3, 4, 5, 6, 7, 8, 9, 11];
 const WAYS: [&str; 4] = ["obvious", "opening", "catastrophic", "none open"];
-const SOURCES: [&str; 3] = ["quote", "official", "none"];
+const ASKED: [&str; 3] = ["TP asked for", "reason 2", "reason 3"];
+const BESIDE: [&str; 3] = ["none", "at TP", "off TP"];
+const ZEROS: [&str; 3] = [
+    "a quote of size 0",
+    "a quote with a size",
+    "an official's price",
+];
 const COVERS: [&str; 3] = ["every contract", "some", "no contract"];
 const BANDS_FROM: [u32; 7] = [0, 2_000, 5_001, 10_001, 20_001, 50_001, 100_001];
 const COLUMNS: [&str; 2] = ["obvious", "catastrophic"];
@@ -45,15 +64,115 @@ const PLACES: [&str; 2] = ["at", "one short of"];
 /// case can be ruled with reason 4.
 const OUT_OF_REACH: Reached = Reached::Reason(4);
 
+/// The prices that stand in a record: the quote of the side in error, there or not; the official's
+/// price and the other quote, each against the price that is TP, or would be if it were asked for.
+#[derive(Clone, Copy, Debug, PartialEq, Eq, PartialOrd, Ord)]
+struct Prices {
+    quote: bool,
+    official: &'static str,
+    other: &'static str,
+}
+
+impl Prices {
+    fn of(fields: &Fields) -> Prices {
+        let (quote, _) = fields.own_quote();
+        let (other, _) = fields.other_quote();
+        let tp = if quote == NONE {
+            fields.official
+        } else {
+            quote
+        };
+        let beside = |price: u32| match price {
+            NONE => BESIDE[0],
+            _ if price == tp => BESIDE[1],
+            _ => BESIDE[2],
+        };
+        Prices {
+            quote: quote != NONE,
+            official: beside(fields.official),
+            other: beside(other),
+        }
+    }
+
+    fn all() -> Vec<Prices> {
+        let mut all = Vec::new();
+        for quote in [true, false] {
+            for official in BESIDE {
+                all.extend(BESIDE.map(|other| Prices {
+                    quote,
+                    official,
+                    other,
+                }));
+            }
+        }
+        all.retain(|prices| prices.can_be());
+        all
+    }
+
+    /// Without the quote the official's price is TP; without both there is no TP for the other quote
+    /// to be at.
+    fn can_be(&self) -> bool {
+        let priced = self.quote || self.official != BESIDE[0];
+        (self.quote || self.official != BESIDE[2]) && (priced || self.other != BESIDE[1])
+    }
+
+    /// "1 quote, 2 official, 0 none"; 0 wherever TP is not asked for.
+    fn origin(&self, asked: &str) -> u8 {
+        if asked != ASKED[0] {
+            0
+        } else if self.quote {
+            1
+        } else if self.official != BESIDE[0] {
+            2
+        } else {
+            0
+        }
+    }
+}
+
+impl fmt::Display for Prices {
+    fn fmt(&self, out: &mut fmt::Formatter) -> fmt::Result {
+        let quote = if self.quote { "quote" } else { "no quote" };
+        let Prices {
+            official, other, ..
+        } = self;
+        write!(
+            out,
+            "{quote}, official's price {official}, other quote {other}"
+        )
+    }
+}
+
 impl Reached {
-    /// All that a long run should reach.
+    /// All that a long run should reach, and what is out of reach; there is nothing else.
     fn all() -> Vec<Reached> {
         let mut all = Vec::new();
         all.extend(NUMBERS.map(Reached::Number));
         all.extend((0..=3).map(Reached::Outcome));
         all.extend((1..=14).map(Reached::Reason));
         all.extend(WAYS.map(Reached::Way));
-        all.extend(SOURCES.map(Reached::Source));
+        for reason in (1..=14).filter(|&reason| Reached::Reason(reason) != OUT_OF_REACH) {
+            let origins: &[u8] = match reason {
+                2 | 3 | 14 => &[0],
+                _ => &[1, 2],
+            };
+            all.extend(
+                origins
+                    .iter()
+                    .map(|&origin| Reached::Origin { reason, origin }),
+            );
+        }
+        for asked in ASKED {
+            for side in SIDES {
+                all.extend(Prices::all().into_iter().map(|prices| Reached::Prices {
+                    asked,
+                    side,
+                    prices,
+                    origin: prices.origin(asked),
+                }));
+            }
+        }
+        all.extend(ZEROS.map(Reached::Zero));
         all.extend(COVERS.map(Reached::Cover));
         for band_from in BANDS_FROM {
             for column in COLUMNS {
@@ -79,7 +198,16 @@ impl fmt::Display for Reached {
             Reached::Outcome(outcome) => write!(out, "outcome {outcome}"),
             Reached::Reason(reason) => write!(out, "reason {reason}"),
             Reached::Way(way) => write!(out, "way: {way}"),
-            Reached::Source(source) => write!(out, "TP from: {source}"),
+            Reached::Origin { reason, origin } => {
+                write!(out, "reason {reason} with origin {origin}")
+            }
+            Reached::Prices {
+                asked,
+                side,
+                prices,
+                origin,
+            } => write!(out, "{asked}, {side}: {prices}: origin {origin}"),
+            Reached::Zero(source) => write!(out, "TP of zero from {source}"),
             Reached::Cover(cover) => write!(out, "opening adjustment covers: {cover}"),
             Reached::Minimum {
                 band_from,
@@ -104,37 +232,56 @@ impl Coverage {
         let Some(bytes) = answer.bytes else {
             return;
         };
-        self.count(Reached::Outcome(bytes[8]));
-        self.count(Reached::Reason(bytes[9]));
+        let ruling = RulingFields::of_answer(bytes);
+        self.count(Reached::Outcome(ruling.outcome));
+        self.count(Reached::Reason(ruling.reason));
+        self.count_origin(&Fields::decode(record), &ruling);
         let case = page::read_case(record).expect("a ruled case is accepted");
         let way = page::open_way(&case);
         let tp = page::theoretical_price(&case);
         self.count(Reached::Way(way_name(way)));
-        self.count(Reached::Source(source_name(tp)));
-        if way == Some(Way::Opening) && bytes[8] == 1 {
-            self.count(Reached::Cover(cover_name(bytes)));
+        if way == Some(Way::Opening) && ruling.outcome == 1 {
+            self.count(Reached::Cover(cover_name(&ruling)));
         }
         if let (Some(way), Some(tp)) = (way, tp) {
-            self.count_minimum(&case, way, tp);
+            self.count_minimum(&case, way, tp.price());
         }
     }
 
-    fn count_minimum(&mut self, case: &Case, way: Way, tp: TheoreticalPrice) {
-        let band = page::band(tp.price);
+    fn count_origin(&mut self, fields: &Fields, ruling: &RulingFields) {
+        let &RulingFields { reason, origin, .. } = ruling;
+        self.count(Reached::Origin { reason, origin });
+        self.count(Reached::Prices {
+            asked: match reason {
+                2 => ASKED[1],
+                3 => ASKED[2],
+                _ => ASKED[0],
+            },
+            side: if fields.side == 1 { SIDES[0] } else { SIDES[1] },
+            prices: Prices::of(fields),
+            origin,
+        });
+        if ruling.tp == 0 {
+            self.count(Reached::Zero(zero_name(fields)));
+        }
+    }
+
+    fn count_minimum(&mut self, case: &Case, way: Way, tp: Mills) {
+        let band = page::band(tp);
         let (column, minimum) = match way {
             Way::Obvious | Way::Opening => (COLUMNS[0], band.obvious_minimum),
             Way::Catastrophic => (COLUMNS[1], band.catastrophic),
         };
         let (side, distance) = match case.side_in_error {
-            Side::Buy => (SIDES[0], case.execution.0.checked_sub(tp.price.0)),
-            Side::Sell => (SIDES[1], tp.price.0.checked_sub(case.execution.0)),
+            Side::Buy => (SIDES[0], case.execution.0.checked_sub(tp.0)),
+            Side::Sell => (SIDES[1], tp.0.checked_sub(case.execution.0)),
         };
         let place = match distance {
             Some(mills) if mills == minimum.0 => PLACES[0],
             Some(mills) if mills + 1 == minimum.0 => PLACES[1],
             _ => return,
         };
-        let above = BANDS_FROM.partition_point(|&from| from <= tp.price.0);
+        let above = BANDS_FROM.partition_point(|&from| from <= tp.0);
         self.count(Reached::Minimum {
             band_from: BANDS_FROM[above - 1],
             column,
@@ -153,9 +300,11 @@ impl Coverage {
 
     /// What should have been reached and was not, or the other way round.
     pub fn surprises(&self) -> Vec<String> {
-        Reached::all()
-            .into_iter()
-            .filter(|&reached| (self.of(reached) > 0) == (reached == OUT_OF_REACH))
+        let all = Reached::all();
+        let unexpected = self.0.keys().filter(|reached| !all.contains(reached));
+        all.iter()
+            .filter(|&&reached| (self.of(reached) > 0) == (reached == OUT_OF_REACH))
+            .chain(unexpected)
             .map(|reached| reached.to_string())
             .collect()
     }
@@ -179,24 +328,18 @@ fn way_name(way: Option<Way>) -> &'static str {
     }
 }
 
-fn source_name(tp: Option<TheoreticalPrice>) -> &'static str {
-    match tp {
-        Some(TheoreticalPrice {
-            quote_size: Some(_),
-            ..
-        }) => SOURCES[0],
-        Some(TheoreticalPrice {
-            quote_size: None, ..
-        }) => SOURCES[1],
-        None => SOURCES[2],
+fn zero_name(fields: &Fields) -> &'static str {
+    match fields.own_quote() {
+        (NONE, _) => ZEROS[2],
+        (_, 0) => ZEROS[0],
+        _ => ZEROS[1],
     }
 }
 
-/// From the ruling's counts: contracts adjusted at 20, standing at 28.
-fn cover_name(answer: &[u8; 96]) -> &'static str {
-    match (&answer[20..24], &answer[28..32]) {
-        (_, [0, 0, 0, 0]) => COVERS[0],
-        ([0, 0, 0, 0], _) => COVERS[2],
+fn cover_name(ruling: &RulingFields) -> &'static str {
+    match (ruling.adjusted, ruling.standing) {
+        (_, 0) => COVERS[0],
+        (0, _) => COVERS[2],
         _ => COVERS[1],
     }
 }

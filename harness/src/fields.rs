@@ -1,5 +1,5 @@
-//! The 88 bytes of a case record and the 28 of a quote, field by field and unjudged: what the
-//! generators set and what a difference prints.
+//! The 88 bytes of a case record, the 28 of a quote and the 32 of a ruling, field by field and
+//! unjudged: what the generators set, what a difference prints and what a test looks at.
 
 use std::fmt;
 
@@ -160,6 +160,21 @@ fields! { QuoteFields, 28:
     offer_size: u32,
 }
 
+fields! { RulingFields, 32:
+    length: u16,
+    kind: u16,
+    trade: u32,
+    outcome: u8,
+    reason: u8,
+    origin: u8,
+    zero_11: u8,
+    tp: u32,
+    new_price: u32,
+    adjusted: u32,
+    nullified: u32,
+    standing: u32,
+}
+
 impl Fields {
     /// An accepted case that rules of the page can be tried on: two Market Makers, a buy of 10 at
     /// 2.000 against an offer of 1.000, filed on the trade date 120 s after the execution at
@@ -198,6 +213,25 @@ impl Fields {
         }
     }
 
+    /// Price and size of the quote that comes first for TP: "best offer for a buy, best bid for a
+    /// sell".
+    pub fn own_quote(&self) -> (u32, u32) {
+        if self.side == 1 {
+            (self.offer, self.offer_size)
+        } else {
+            (self.bid, self.bid_size)
+        }
+    }
+
+    /// Price and size of the quote that has no say.
+    pub fn other_quote(&self) -> (u32, u32) {
+        if self.side == 1 {
+            (self.bid, self.bid_size)
+        } else {
+            (self.offer, self.offer_size)
+        }
+    }
+
     /// The quotes alone with their bytes in the other order.
     pub fn quotes_turned(&self) -> Fields {
         Fields {
@@ -222,6 +256,13 @@ impl QuoteFields {
             bid_size: 10,
             offer_size: 20,
         }
+    }
+}
+
+impl RulingFields {
+    /// The ruling comes first in the answer to a case, before the notices.
+    pub fn of_answer(answer: &[u8; 96]) -> RulingFields {
+        RulingFields::decode(answer.first_chunk().expect("96 bytes"))
     }
 }
 

@@ -1,7 +1,7 @@
 //! The harness: an independent desk beside the proved one, and what is needed to compare the two.
 //!
-//! - [`page`]: the independent desk, written from document 01, requests L1 and L8 of document 02 and
-//!   what was decided where they are silent;
+//! - [`page`]: the independent desk, written from document 01, requests L1, L3 and L8 of document 02
+//!   and what was decided where they are silent;
 //! - [`desk`]: the proved desk, the static library behind a safe interface;
 //! - [`desks`]: what the two have in common;
 //! - [`fields`], [`accepted`], [`faults`], [`mixture`]: case records, good and bad;

@@ -1,20 +1,20 @@
 //! The desk from C: `c/page.c` compiles without a warning against `include/desk.h`, reads the answers
 //! under its names and prints the page's five lines; `c/quotes.c` counts and looks up quotes and fills a
-//! case; `c/fields.c` writes every field of a record. The header's numbers are those of the independent
-//! desk, and it is also good C++.
+//! case; `c/fields.c` writes every field of a record. The header's numbers, and the first line of a
+//! report in it, are those of the independent desk, and it is also good C++.
 
 use std::fmt::Debug;
 use std::fs::{self, File};
 use std::path::{Path, PathBuf};
 use std::process::{Command, Output};
 
-use harness::fields::{Fields, QuoteFields, NONE};
-use harness::page::{Outcome, Reason, Refusal};
+use harness::fields::{Fields, QuoteFields, RulingFields, NONE};
+use harness::page::{print_sheet, Origin, Outcome, Reason, Refusal};
 
 const LINES: &str = "\
-TRADE OUTCOME REASON TP NEW ADJ NUL OLD
-1 ADJUST 6 1000 1150 10 0 0
-2 ADJUST 7 2000 2000 20 0 10
+TRADE OUTCOME REASON TP NEW ADJ NUL OLD FROM
+1 ADJUST 6 1000 1150 10 0 0 1
+2 ADJUST 7 2000 2000 20 0 10 1
 #2 REFUSED 6
 END 2 1
 ";
@@ -121,13 +121,33 @@ fn the_header_names_every_field_of_a_record() {
         bid_size: 203,
         offer_size: 204,
     };
+    let ruling = RulingFields {
+        length: 32,
+        kind: 16,
+        trade: 301,
+        outcome: 1,
+        reason: 7,
+        origin: 2,
+        zero_11: 0,
+        tp: 302,
+        new_price: 303,
+        adjusted: 304,
+        nullified: 305,
+        standing: 306,
+    };
     let output = run(&mut Command::new(compiled("fields")));
     let (record, rest) = output.stdout.split_first_chunk().expect("88 bytes");
     assert_eq!(Fields::decode(record), case);
+    let (record, rest) = rest.split_first_chunk().expect("28 bytes");
+    assert_eq!(QuoteFields::decode(record), quote);
     assert_eq!(
-        QuoteFields::decode(rest.try_into().expect("28 bytes")),
-        quote
+        RulingFields::decode(rest.try_into().expect("32 bytes")),
+        ruling
     );
+}
+
+fn header() -> String {
+    fs::read_to_string(home().join("../include/desk.h")).expect("the header")
 }
 
 /// Does the header have that number under that name, which is the independent desk's own in C's
@@ -140,16 +160,18 @@ fn check_number(prefix: &str, value: impl Debug, number: u32) {
         }
         name.push(letter.to_ascii_uppercase());
     }
-    let header = fs::read_to_string(home().join("../include/desk.h")).expect("the header");
     let define = format!("\n#define {name} {number}u");
-    assert_eq!(header.matches(&define).count(), 1, "{define}");
+    assert_eq!(header().matches(&define).count(), 1, "{define}");
 }
 
 #[test]
-fn the_header_numbers_outcomes_reasons_and_refusals_as_the_page() {
+fn the_header_numbers_outcomes_reasons_origins_and_refusals_as_the_page() {
     use Outcome::*;
     for outcome in [NoRelief, Adjusted, Nullified, Waiting] {
         check_number("DESK", outcome, outcome as u32);
+    }
+    for origin in [Origin::None, Origin::Quote, Origin::Official] {
+        check_number("DESK_ORIGIN", origin, origin as u32);
     }
     for reason in [
         Reason::NoError,
@@ -189,6 +211,15 @@ fn the_header_numbers_outcomes_reasons_and_refusals_as_the_page() {
     ] {
         check_number("DESK_REFUSAL", refusal, u32::from(refusal.number()));
     }
+}
+
+/// In a comment, on a line of its own.
+#[test]
+fn the_header_shows_the_first_line_of_a_report() {
+    let report = print_sheet(&[]);
+    let first = report.lines().next().expect("a line");
+    let shown = format!("\n *     {first}\n");
+    assert_eq!(header().matches(&shown).count(), 1, "{shown}");
 }
 
 #[test]

@@ -1,9 +1,10 @@
-//! "Laws the counter relies on", tried on the answers of the proved desk; and the round trip of a
-//! record's fields.
+//! "Laws the counter relies on", tried on the answers of the proved desk; those of TP's origin
+//! (request L3); and the round trip of a record's fields.
 
 use harness::accepted::accepted;
+use harness::desk::TEXT_BYTES;
 use harness::desks::{Desk, Proved};
-use harness::fields::Fields;
+use harness::fields::{Fields, RulingFields, NONE};
 use harness::mixture::Mixture;
 use harness::page::{band, Mills};
 use harness::random::Random;
@@ -54,6 +55,88 @@ fn contracts_sum_to_those_traded() {
     }
 }
 
+/// The origin is 0 exactly where TP is none, 1 exactly where TP is the quote of the side in error, 2
+/// exactly where that quote is none and TP the official's price.
+#[test]
+fn the_origin_says_what_gave_tp() {
+    let mut random = Random::new(settings::seed());
+    let mut answer = [0; 96];
+    let mut seen = [0; 3];
+    for _ in 0..TRIES {
+        let fields = accepted(&mut random);
+        assert_eq!(Proved.rule_case(&fields.encode(), &mut answer), 0);
+        let ruling = RulingFields::of_answer(&answer);
+        let (quote, _) = fields.own_quote();
+        let (tp, origin) = (ruling.tp, ruling.origin);
+        assert_eq!(origin == 0, tp == NONE, "\n{fields}{ruling}");
+        assert_eq!(
+            origin == 1,
+            quote != NONE && tp == quote,
+            "\n{fields}{ruling}"
+        );
+        assert_eq!(
+            origin == 2,
+            quote == NONE && tp != NONE && tp == fields.official,
+            "\n{fields}{ruling}"
+        );
+        assert_eq!(
+            origin == 0,
+            [2, 3, 14].contains(&ruling.reason),
+            "\n{fields}{ruling}"
+        );
+        assert_eq!(ruling.zero_11, 0, "\n{fields}{ruling}");
+        seen[usize::from(origin)] += 1;
+    }
+    assert!(seen.iter().all(|&cases| cases > TRIES / 100), "{seen:?}");
+}
+
+/// The case with another quote of the side in error, of that price and size.
+fn with_own_quote(price: u32, size: u32, fields: &Fields) -> Fields {
+    let mut fields = fields.clone();
+    if fields.side == 1 {
+        (fields.offer, fields.offer_size) = (price, size);
+    } else {
+        (fields.bid, fields.bid_size) = (price, size);
+    }
+    fields
+}
+
+/// Where the same price is once a quote for every contract and once an official's, the answers are
+/// alike but for byte 10 of the ruling: no notice tells the origin.
+#[test]
+fn the_origin_is_told_in_byte_10_of_the_ruling_alone() {
+    let mut random = Random::new(settings::seed());
+    let (mut quoted, mut official) = ([0; 96], [0; 96]);
+    let mut told = 0;
+    for _ in 0..TRIES {
+        let fields = accepted(&mut random);
+        let price = match fields.own_quote() {
+            (NONE, _) => fields.official,
+            (price, _) => price,
+        };
+        if price == NONE {
+            continue;
+        }
+        let by_quote = with_own_quote(price, fields.contracts, &fields);
+        let by_official = Fields {
+            official: price,
+            ..with_own_quote(NONE, 0, &fields)
+        };
+        assert_eq!(Proved.rule_case(&by_quote.encode(), &mut quoted), 0);
+        assert_eq!(Proved.rule_case(&by_official.encode(), &mut official), 0);
+        let origins = if [2, 3].contains(&quoted[9]) {
+            (0, 0)
+        } else {
+            told += 1;
+            (1, 2)
+        };
+        assert_eq!((quoted[10], official[10]), origins, "\n{fields}");
+        assert_eq!(quoted[..10], official[..10], "\n{fields}");
+        assert_eq!(quoted[11..], official[11..], "\n{fields}");
+    }
+    assert!(told > TRIES / 2);
+}
+
 /// The answers of a sheet, one by one, without the index of refused ones.
 fn answers(sheet: &[u8]) -> Vec<Vec<u8>> {
     let mut out = vec![0; sheet.len() / 88 * 96];
@@ -89,6 +172,40 @@ fn reordering_a_sheet_reorders_the_answers() {
         let after = answers(reordered.as_flattened());
         let expected: Vec<Vec<u8>> = order.iter().map(|&at| before[at].clone()).collect();
         assert_eq!(after, expected);
+    }
+}
+
+/// The last of a ruled case's nine fields is its ruling's byte 10; no other line has a field more.
+#[test]
+fn the_origin_is_printed_as_the_ruling_has_it() {
+    let mut random = Random::new(settings::seed());
+    let mixture = Mixture::default();
+    let mut text = [0; TEXT_BYTES];
+    for _ in 0..200 {
+        let cases: Vec<[u8; 88]> = (0..random.within(0, 60))
+            .map(|_| mixture.record(&mut random))
+            .collect();
+        let len = Proved.print_sheet(cases.as_flattened(), &mut text) as usize;
+        let report = str::from_utf8(&text[..len]).expect("text");
+        let lines: Vec<Vec<&str>> = report
+            .lines()
+            .map(|line| line.split(' ').collect())
+            .collect();
+        let [header, lines @ .., end] = &lines[..] else {
+            panic!("no header or no END:\n{report}");
+        };
+        assert_eq!((header.len(), header.last()), (9, Some(&"FROM")));
+        assert_eq!((end.len(), end[0]), (3, "END"));
+        let answers = answers(cases.as_flattened());
+        assert_eq!(lines.len(), answers.len());
+        for (line, answer) in lines.iter().zip(&answers) {
+            if answer.len() == 96 {
+                let origin = answer[10].to_string();
+                assert_eq!((line.len(), line.last()), (9, Some(&&*origin)));
+            } else {
+                assert_eq!((line.len(), line[1]), (3, "REFUSED"));
+            }
+        }
     }
 }
 

@@ -100,6 +100,35 @@ fn sheets_of_0_1_599_600_and_601_cases() {
     }
 }
 
+/// As long as a line can be: every number in it has as many digits as it can have beside the others.
+/// A line is taken for 96 bytes at most.
+#[test]
+fn the_longest_lines_have_room() {
+    let longest = Fields {
+        trade: u32::MAX,
+        execution: 9_999_999,
+        contracts: 1_000_000,
+        offer: 9_998_999,
+        offer_size: 500_000,
+        opening: 1,
+        buyer_kind: 1,
+        filed_at: 34_200 + 1_800,
+        agreement: 1,
+        agreed: 9_999_999,
+        ..Fields::example()
+    };
+    let line = "4294967295 ADJUST 10 9998999 9999999 500000 0 500000 1\n";
+    assert!(line.len() <= 96);
+    let mut random = Random::new(settings::seed());
+    let mut comparison = Comparison::new(&Proved, &Plain);
+    let text = comparison
+        .print_sheet(&longest.encode().repeat(600), &mut random)
+        .expect("the desks agree");
+    let header = "TRADE OUTCOME REASON TP NEW ADJ NUL OLD FROM\n";
+    let expected = [header, &line.repeat(600), "END 600 0\n"].concat();
+    assert_eq!(String::from_utf8_lossy(text), expected);
+}
+
 #[test]
 fn null_beside_a_length_of_0() {
     let mut random = Random::new(settings::seed());

@@ -39,9 +39,9 @@ impl Call {
 #[test]
 fn little_stack() {
     let mut check_case = Call::new("desk_check_case", 96);
-    let mut rule_case = Call::new("desk_rule_case", 208);
-    let mut rule_sheet = Call::new("desk_rule_sheet", 240);
-    let mut print_sheet = Call::new("desk_print_sheet", 288);
+    let mut rule_case = Call::new("desk_rule_case", 200);
+    let mut rule_sheet = Call::new("desk_rule_sheet", 232);
+    let mut print_sheet = Call::new("desk_print_sheet", 280);
 
     let mut random = Random::new(settings::seed());
     let mixture = Mixture::default();
@@ -49,6 +49,7 @@ fn little_stack() {
     let (mut out, mut out_too) = (vec![0; CASES * ANSWER_BYTES], vec![0; CASES * ANSWER_BYTES]);
     let (mut text, mut text_too) = ([0; TEXT_BYTES], [0; TEXT_BYTES]);
     let (mut refusals, mut reasons) = (BTreeSet::new(), BTreeSet::new());
+    let mut origins = BTreeSet::new();
     for _ in 0..SHEETS {
         let cases: Vec<_> = (0..CASES).map(|_| mixture.record(&mut random)).collect();
         for case in &cases {
@@ -61,6 +62,7 @@ fn little_stack() {
             refusals.insert(refusal);
             if refusal == 0 {
                 reasons.insert(out[9]);
+                origins.insert(out[10]);
             }
         }
         let sheet = cases.as_flattened();
@@ -85,6 +87,7 @@ fn little_stack() {
         (1..=14).filter(|&reason| reason != 4).collect(),
         "the reasons that were met"
     );
+    assert_eq!(origins, [0, 1, 2].into(), "the origins that were met");
 
     // Refused whole, or for want of room: no deeper.
     let ragged = &[0; CASE_BYTES * 2 + 1];

@@ -123,8 +123,8 @@ fn against_the_party_in_error(case: &Case, tp: Mills, adjustment: Mills) -> Mill
 /// TP; ... where an official gave TP there is no such limit. All other adjustments ... cover every
 /// contract."
 pub fn covered(case: &Case, way: Way, tp: TheoreticalPrice) -> Contracts {
-    match (way, tp.quote_size) {
-        (Way::Opening, Some(size)) => size.min(case.contracts),
+    match (way, tp) {
+        (Way::Opening, TheoreticalPrice::Quoted(quote)) => quote.size.min(case.contracts),
         _ => case.contracts,
     }
 }

@@ -4,7 +4,7 @@
 use super::case::{Case, Party, Side};
 use super::reading::{as_record, read_record, Record, CASE_BYTES};
 use super::refusal::Refusal;
-use super::ruling::{rule, Outcome, Ruling};
+use super::ruling::{rule, Origin, Outcome, Ruling, TheoreticalPrice};
 use super::units::Mills;
 
 const PART_BYTES: usize = 32;
@@ -86,16 +86,22 @@ fn write_answer(case: &Case, out: &mut [u8; ANSWER_BYTES]) {
     write_notice(case, &ruling, Side::Sell, &mut parts[2]);
 }
 
+/// Request L3 of document 02: "Byte 10 of the ruling carries" the origin; 11 stays zero.
 fn write_ruling(case: &Case, ruling: &Ruling, out: &mut [u8; PART_BYTES]) {
     write_head(RULING_KIND, case, ruling, out);
-    put(out, 10, [0, 0]);
-    put(out, 12, price_or_none(ruling.tp));
+    put(out, 10, [Origin::of(ruling.tp) as u8, 0]);
+    put(
+        out,
+        12,
+        price_or_none(ruling.tp.map(TheoreticalPrice::price)),
+    );
     put(out, 16, price_or_none(ruling.new_price));
     put(out, 20, ruling.adjusted.0.to_le_bytes());
     put(out, 24, ruling.nullified.0.to_le_bytes());
     put(out, 28, ruling.standing.0.to_le_bytes());
 }
 
+/// Request L3: "Notices ... stay", so that 10 is the recipient and the origin is not told.
 fn write_notice(case: &Case, ruling: &Ruling, recipient: Side, out: &mut [u8; PART_BYTES]) {
     write_head(NOTICE_KIND, case, ruling, out);
     put(out, 10, [recipient as u8, 0]);

@@ -1,4 +1,4 @@
-//! The independent desk: document 01, and requests L1 and L8 of document 02, once more in plain Rust.
+//! The independent desk: document 01, and requests L1, L3 and L8 of document 02, once more in plain Rust.
 //!
 //! It is written from these and what was decided where they are silent, and shares nothing with
 //! the proved desk, so that the two can be compared; it is also the benchmark's baseline for sheets. Every part uses only this folder (`super::`),
@@ -27,7 +27,7 @@ pub use printer::print_sheet;
 pub use quotes::{best_quotes, quotes_before, Best};
 pub use reading::{read_case, CASE_BYTES};
 pub use refusal::Refusal;
-pub use ruling::{rule, theoretical_price, Outcome, Reason, Ruling, TheoreticalPrice};
+pub use ruling::{rule, theoretical_price, Origin, Outcome, Reason, Ruling, TheoreticalPrice};
 pub use told::{best_told, number_told};
 pub use units::{Contracts, Mills, Seconds};
 pub use way::{open_way, Way};

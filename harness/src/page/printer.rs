@@ -5,10 +5,10 @@ use std::fmt::Write;
 use super::answer::cases_of;
 use super::case::Case;
 use super::reading::read_record;
-use super::ruling::{rule, Outcome, Ruling};
+use super::ruling::{rule, Origin, Outcome, Ruling, TheoreticalPrice};
 use super::units::Mills;
 
-const HEADER: &str = "TRADE OUTCOME REASON TP NEW ADJ NUL OLD\n";
+const HEADER: &str = "TRADE OUTCOME REASON TP NEW ADJ NUL OLD FROM\n";
 
 pub fn print_sheet(sheet: &[u8]) -> String {
     match cases_of(sheet) {
@@ -42,20 +42,22 @@ pub fn print_sheet(sheet: &[u8]) -> String {
 }
 
 /// "Trade, one of the words NONE, ADJUST, NULLIFY, WAIT, reason, TP, new price, contracts adjusted,
-/// nullified, standing."
+/// nullified, standing." Request L3 of document 02: "the printer adds" the origin "as a last field
+/// headed FROM".
 fn print_ruling(case: &Case, ruling: &Ruling, text: &mut String) {
     line(
         text,
         format_args!(
-            "{} {} {} {} {} {} {} {}",
+            "{} {} {} {} {} {} {} {} {}",
             case.trade,
             word(ruling.outcome),
             ruling.reason as u8,
-            mills_or_dash(ruling.tp),
+            mills_or_dash(ruling.tp.map(TheoreticalPrice::price)),
             mills_or_dash(ruling.new_price),
             ruling.adjusted.0,
             ruling.nullified.0,
             ruling.standing.0,
+            Origin::of(ruling.tp) as u8,
         ),
     );
 }

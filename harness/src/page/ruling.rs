@@ -2,7 +2,7 @@
 
 use super::act::{act, agreed, covered, Act};
 use super::bands::band;
-use super::case::{Case, Side};
+use super::case::{Case, Quote, Side};
 use super::units::{Contracts, Mills};
 use super::way::{open_way, Way};
 
@@ -38,23 +38,56 @@ pub enum Outcome {
 pub struct Ruling {
     pub outcome: Outcome,
     pub reason: Reason,
-    pub tp: Option<Mills>,
+    pub tp: Option<TheoreticalPrice>,
     pub new_price: Option<Mills>,
     pub adjusted: Contracts,
     pub nullified: Contracts,
     pub standing: Contracts,
 }
 
-/// A theoretical price, with the size of the quote that gave it; none where an official gave it.
+/// A theoretical price and what gave it: a quote, which also has a size, or an official.
 #[derive(Clone, Copy, Debug, PartialEq, Eq)]
-pub struct TheoreticalPrice {
-    pub price: Mills,
-    pub quote_size: Option<Contracts>,
+pub enum TheoreticalPrice {
+    Quoted(Quote),
+    Official(Mills),
+}
+
+/// Request L3 of document 02: the origin of TP, "1 quote, 2 official, 0 none".
+#[derive(Clone, Copy, Debug, PartialEq, Eq)]
+pub enum Origin {
+    None = 0,
+    Quote = 1,
+    Official = 2,
+}
+
+impl TheoreticalPrice {
+    pub fn price(self) -> Mills {
+        match self {
+            TheoreticalPrice::Quoted(quote) => quote.price,
+            TheoreticalPrice::Official(price) => price,
+        }
+    }
+}
+
+impl Origin {
+    /// Of a ruling's TP: where that is none there is no origin, whatever stands in the record.
+    pub fn of(tp: Option<TheoreticalPrice>) -> Origin {
+        match tp {
+            None => Origin::None,
+            Some(TheoreticalPrice::Quoted(_)) => Origin::Quote,
+            Some(TheoreticalPrice::Official(_)) => Origin::Official,
+        }
+    }
 }
 
 impl Ruling {
     /// Every contract stands.
-    fn stands(case: &Case, outcome: Outcome, reason: Reason, tp: Option<Mills>) -> Ruling {
+    fn stands(
+        case: &Case,
+        outcome: Outcome,
+        reason: Reason,
+        tp: Option<TheoreticalPrice>,
+    ) -> Ruling {
         Ruling {
             outcome,
             reason,
@@ -77,14 +110,14 @@ pub fn rule(case: &Case) -> Ruling {
     let Some(tp) = theoretical_price(case) else {
         return Ruling::stands(case, Outcome::Waiting, Reason::NoPrice, None);
     };
-    match decide(case, way, tp.price) {
-        Act::Leave(reason) => Ruling::stands(case, Outcome::NoRelief, reason, Some(tp.price)),
+    match decide(case, way, tp.price()) {
+        Act::Leave(reason) => Ruling::stands(case, Outcome::NoRelief, reason, Some(tp)),
         Act::Adjust(reason, price) => {
             let adjusted = covered(case, way, tp);
             Ruling {
                 outcome: Outcome::Adjusted,
                 reason,
-                tp: Some(tp.price),
+                tp: Some(tp),
                 new_price: Some(price),
                 adjusted,
                 nullified: Contracts(0),
@@ -94,7 +127,7 @@ pub fn rule(case: &Case) -> Ruling {
         Act::Nullify(reason) => Ruling {
             outcome: Outcome::Nullified,
             reason,
-            tp: Some(tp.price),
+            tp: Some(tp),
             new_price: None,
             adjusted: Contracts(0),
             nullified: case.contracts,
@@ -103,20 +136,15 @@ pub fn rule(case: &Case) -> Ruling {
     }
 }
 
-/// "Best offer for a buy, best bid for a sell; if that is none, the official's price."
+/// "Best offer for a buy, best bid for a sell; if that is none, the official's price." Request L3:
+/// "The step that finds TP now answers its origin too."
 pub fn theoretical_price(case: &Case) -> Option<TheoreticalPrice> {
     let quote = match case.side_in_error {
         Side::Buy => case.offer,
         Side::Sell => case.bid,
     };
-    let quoted = quote.map(|quote| TheoreticalPrice {
-        price: quote.price,
-        quote_size: Some(quote.size),
-    });
-    let official = case.official.map(|price| TheoreticalPrice {
-        price,
-        quote_size: None,
-    });
+    let quoted = quote.map(TheoreticalPrice::Quoted);
+    let official = case.official.map(TheoreticalPrice::Official);
     quoted.or(official)
 }
 
