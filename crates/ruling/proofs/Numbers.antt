@@ -15,7 +15,7 @@ use Rattle.act.proofs.Reasons.{act-told}
 use Rattle.ruling.specs.Words.{Mills, None, Facts, Way, Source, Theory, Found, Missing, Ruling}
 use Rattle.ruling.specs.Outcomes.{outcomeNumber, newPrice, countsOf}
 use Rattle.ruling.specs.Ruling.{rulingOf}
-use Rattle.ruling.specs.Numbers.{actPriceAt, newPriceFor, wayIn, theoryIn, unlooked, coverFor, InNumbers}
+use Rattle.ruling.specs.Numbers.{actPriceAt, newPriceFor, wayIn, theoryIn, notLookedFor, coverFor, InNumbers}
 use Rattle.ruling.proofs.Walk.{Grounds, each-ruling}
 use Rattle.ruling.proofs.Reasons.{reasons-agree}
 use Rattle.ruling.proofs.Laws.{sums, heeded-price}
@@ -26,8 +26,8 @@ module _ (f : Facts) where
   abbrev set : ℕ → Theory → ℕ
   set reason tp = pick (eqb reason 10) (priceNumber (f .settlement .agreed)) (actPriceAt reason (f .request .side) tp)
 
-  -- neither 1 to 5 nor 11 to 13 set one
-  shut : (r : ℕ) → unlooked r ≡ true → priceNumber None ≡ set r Missing
+  -- neither 2 and 3, which have no TP, nor 1 to 5 nor 11 to 13 set one
+  shut : (r : ℕ) → notLookedFor r ≡ true → priceNumber None ≡ set r Missing
   unfolding inRange
   shut r h = each-listed (λ (n : ℕ). priceNumber None ≡ set n Missing) 1 2 (refl, refl) r h
 

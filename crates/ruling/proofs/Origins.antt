@@ -12,7 +12,7 @@ use Rattle.theory.proofs.Prices.{theory-number, theory-origin}
 use Rattle.theory.proofs.Origins as theory
 use Rattle.ruling.specs.Words.{Mills, Contracts, None, Facts, Way, Source, Theory, Found, Missing, Ruling}
 use Rattle.ruling.specs.Ruling.{rulingOf}
-use Rattle.ruling.specs.Numbers.{quoteIn, theoryIn, unlooked}
+use Rattle.ruling.specs.Numbers.{quoteIn, theoryIn, notLookedFor}
 use Rattle.ruling.specs.Origins.{tpOf, originOf, OfQuote, OfOfficial, Without, Exactly}
 use Rattle.ruling.proofs.Walk.{Grounds, each-ruling}
 
@@ -22,7 +22,7 @@ adjusting f way s r p g = ⊎-elim (λ c. (omega (arith, c .0), omega (arith, c 
 
 module _ (f : Facts) where
   abbrev Told : Ruling → Type 0
-  Told r = r .tp ≡ pick (unlooked (r .reason)) Missing (theoryIn f)
+  Told r = r .tp ≡ pick (notLookedFor (r .reason)) Missing (theoryIn f)
 
   pub tp-told : Told (rulingOf f)
   unfolding inRange
@@ -36,18 +36,18 @@ module _ (f : Facts) where
 
   -- ---- in numbers
   abbrev shut : Bool
-  shut = unlooked (rulingOf f .reason)
+  shut = notLookedFor (rulingOf f .reason)
 
   either-number : (number : Theory → ℕ) (b : Bool) (t : Theory) → number (pick b Missing t) ≡ pick b (number Missing) (number t)
   either-number number true t = refl
   either-number number false t = refl
 
-  pub tp-number : theoryNumber (rulingOf f .tp) ≡ pick (unlooked (rulingOf f .reason)) (priceNumber None) (priceNumber (orElse (quoteIn f) (f .market .official)))
+  pub tp-number : theoryNumber (rulingOf f .tp) ≡ pick (notLookedFor (rulingOf f .reason)) (priceNumber None) (priceNumber (orElse (quoteIn f) (f .market .official)))
   tp-number =
       ap theoryNumber tp-told ∙ either-number theoryNumber shut (theoryIn f)
       ∙ ap (pick shut (priceNumber None)) (theory-number (f .request .side) (f .market))
 
-  pub tp-origin : theoryOrigin (rulingOf f .tp) ≡ pick (unlooked (rulingOf f .reason)) 0 (originAmong (quoteIn f) (f .market .official))
+  pub tp-origin : theoryOrigin (rulingOf f .tp) ≡ pick (notLookedFor (rulingOf f .reason)) 0 (originAmong (quoteIn f) (f .market .official))
   tp-origin =
       ap theoryOrigin tp-told ∙ either-number theoryOrigin shut (theoryIn f)
       ∙ ap (pick shut 0) (theory-origin (f .request .side) (f .market))
@@ -74,7 +74,7 @@ module _ (f : Facts) where
       )
 
   -- ---- and by the reason
-  listed : (r : ℕ) → unlooked r ≡ true → Without r
+  listed : (r : ℕ) → notLookedFor r ≡ true → Without r
   unfolding inRange
   listed r h = each-listed Without 1 2 (inl refl, inr (inl refl)) r h
 

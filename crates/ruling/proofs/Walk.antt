@@ -15,7 +15,7 @@ use Rattle.act.specs.Numbers.{actOutcome, actReason, fits}
 use Rattle.act.proofs.Reasons.{act-told}
 use Rattle.ruling.specs.Words.{Mills, Facts, Way, Obvious, Opening, Catastrophic, Open, By, Closed, Source, Theory, Found, Missing, Heeded, Ignored, Repriced, Undone, Act, Adjust, Nullify, Leave, Ruling}
 use Rattle.ruling.specs.Ruling.{noRelief, waiting, nullify, adjust, carriedOut, settled, ruledAt, ruledFrom, ruledOn, ruledBy, ruledIf, rulingOf}
-use Rattle.ruling.specs.Numbers.{wayIn, theoryIn, unlooked}
+use Rattle.ruling.specs.Numbers.{wayIn, theoryIn, notLookedFor}
 
 -- the act that these facts come to, on a way at a TP
 abbrev pub actAt : Facts → Way → Source → Act
@@ -37,9 +37,9 @@ pub record Grounds (f : Facts) (way : Way) (s : Source) (reason : ℕ) (price : 
   pub cause : ((reason ≡ 10) × (heededAt f way ≡ Repriced price)) ⊎ ((inRange 6 9 reason ≡ true) × (actAt f way s ≡ Adjust (record { reason = reason; price = price })))
 
 module _ (f : Facts) (P : Ruling → Type 0)
-    (shut : (r : ℕ) → unlooked r ≡ true → P (noRelief (f .trade) r Missing))
+    (shut : (r : ℕ) → notLookedFor r ≡ true → P (noRelief (f .trade) r Missing))
     (wait : theoryIn f ≡ Missing → P (waiting (f .trade)))
-    (left : (s : Source) (r : ℕ) → theoryIn f ≡ Found s → inRange 1 5 r ≡ true → unlooked r ≡ false → P (noRelief (f .trade) r (Found s)))
+    (left : (s : Source) (r : ℕ) → theoryIn f ≡ Found s → inRange 1 5 r ≡ true → notLookedFor r ≡ false → P (noRelief (f .trade) r (Found s)))
     (undone : (s : Source) (r : ℕ) → theoryIn f ≡ Found s → inRange 11 13 r ≡ true → P (nullify (f .trade) r s))
     (priced : (way : Way) (s : Source) (r : ℕ) (p : Mills) → Grounds f way s r p → P (adjust (f .trade) way s r p)) where
   module _ (way : Way) (opened : wayIn f ≡ By way) (s : Source) (found : theoryIn f ≡ Found s) (error : InError f way s) where

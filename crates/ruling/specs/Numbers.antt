@@ -29,7 +29,7 @@ newPriceFor f r = pick (eqb (r .reason) 10) (priceNumber (f .settlement .agreed)
 abbrev pub wayIn : Facts → Open
 wayIn f = wayOf (f .trade .executed) (f .request) (bySide (f .request .side) (f .buyer .kind) (f .seller .kind))
 
--- the price of the quote that is looked at for these facts, and the TP that they have
+-- the price of the quote that these facts have on the side in error, and the TP that is found for them where it is looked for
 abbrev pub quoteIn : Facts → Price
 quoteIn f = quoteFor (f .request .side) (f .market) .price
 
@@ -37,8 +37,8 @@ abbrev pub theoryIn : Facts → Theory
 theoryIn f = theoryOf (f .request .side) (f .market)
 
 -- No TP is looked for where no way is open (2) or a panel has already decided (3).
-abbrev pub unlooked : ℕ → Bool
-unlooked reason = inRange 2 3 reason
+abbrev pub notLookedFor : ℕ → Bool
+notLookedFor reason = inRange 2 3 reason
 
 -- The contracts that an adjustment covers, by the way that is open and the origin of TP (RULE R9); where either is missing there is none.
 abbrev pub coverFor : Contracts → Open → Theory → ℕ
@@ -50,9 +50,9 @@ pub record InNumbers (f : Facts) (r : Ruling) : Type 0 where
   -- the outcome is that of the reason
   pub outcome : outcomeNumber (r .outcome) ≡ reasonOutcome (r .reason)
   -- TP is the quote's price, or the official's where that is none; it is none where the reason is 2 or 3, whatever stands in the record
-  pub tp : theoryNumber (r .tp) ≡ pick (unlooked (r .reason)) (priceNumber None) (priceNumber (orElse (quoteIn f) (f .market .official)))
+  pub tp : theoryNumber (r .tp) ≡ pick (notLookedFor (r .reason)) (priceNumber None) (priceNumber (orElse (quoteIn f) (f .market .official)))
   -- its origin is 1, 2 or 0 by the same two prices, and 0 where the reason is 2 or 3
-  pub origin : theoryOrigin (r .tp) ≡ pick (unlooked (r .reason)) 0 (originAmong (quoteIn f) (f .market .official))
+  pub origin : theoryOrigin (r .tp) ≡ pick (notLookedFor (r .reason)) 0 (originAmong (quoteIn f) (f .market .official))
   -- the new price is the one that the reason sets
   pub price : priceNumber (newPrice (r .outcome)) ≡ newPriceFor f r
   -- as many contracts are adjusted as an adjustment covers where the outcome is 1, and none where it is another

@@ -13,7 +13,8 @@ source-price None size (At p) = refl
 source-price None size None = refl
 
 source-origin : (p : Price) (size : Contracts) (official : Price) → theoryOrigin (sourceOf p size official) ≡ originAmong p official
-source-origin (At p) size official = refl
+source-origin (At p) size (At q) = refl
+source-origin (At p) size None = refl
 source-origin None size (At p) = refl
 source-origin None size None = refl
 

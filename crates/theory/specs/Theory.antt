@@ -49,8 +49,9 @@ theoryOrigin Missing = 0
 
 -- the same from the prices alone, a quote's and an official's: 1 where the first is there, else 2 where the second is, else 0
 abbrev pub originAmong : Price → Price → ℕ
-originAmong (At p) official = 1
-originAmong None (At p) = 2
+originAmong (At p) (At official) = 1
+originAmong (At p) None = 1
+originAmong None (At official) = 2
 originAmong None None = 0
 
 -- none, or at most k mills
