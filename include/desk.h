@@ -8,9 +8,9 @@
  * desk_print_sheet 256, as measured; those for quotes were not.
  *
  * A program that was compiled when struct desk_best had five numbers, and desk_best_quotes three arguments, must be compiled
- * again: the linker does not see the difference. One that was written when bytes 10 and 11 of a ruling were both zero, and a
- * printed line had eight fields, must be looked at where it reads them: byte 10 tells the origin of the theoretical price, and
- * so does a ninth field, FROM. */
+ * again: the linker does not see the difference. One that was written when bytes 10 and 11 of a ruling were both zero, under the
+ * name DESK_RULING_AT_ZERO, and a printed line had eight fields, must be changed where it reads them: byte 10 tells the origin
+ * of the theoretical price, and so does a ninth field, FROM. With the old name it does not compile. */
 #ifndef DESK_H
 #define DESK_H
 
@@ -121,7 +121,7 @@ extern "C" {
 #define DESK_RULING_AT_OUTCOME 8u    /* 1: DESK_NO_RELIEF to DESK_WAITING */
 #define DESK_RULING_AT_REASON 9u     /* 1: DESK_REASON_.. */
 #define DESK_RULING_AT_ORIGIN 10u    /* 1: what gave the theoretical price, DESK_ORIGIN_NONE to DESK_ORIGIN_OFFICIAL */
-#define DESK_RULING_AT_ZERO 11u      /* 1: zero */
+#define DESK_RULING_AT_ONE_ZERO 11u  /* 1: zero */
 #define DESK_RULING_AT_TP 12u        /* 4: theoretical price, or none (none also for reasons 2 and 3) */
 #define DESK_RULING_AT_NEW_PRICE 16u /* 4: none unless adjusted */
 #define DESK_RULING_AT_ADJUSTED 20u  /* 4: contracts adjusted */

@@ -63,7 +63,7 @@ static void put_ruling(uint8_t record[DESK_RULING_BYTES])
     record[DESK_RULING_AT_OUTCOME] = DESK_ADJUSTED;
     record[DESK_RULING_AT_REASON] = DESK_REASON_OPENING;
     record[DESK_RULING_AT_ORIGIN] = DESK_ORIGIN_OFFICIAL;
-    record[DESK_RULING_AT_ZERO] = 0;
+    record[DESK_RULING_AT_ONE_ZERO] = 0;
     put_u32(record + DESK_RULING_AT_TP, 302);
     put_u32(record + DESK_RULING_AT_NEW_PRICE, 303);
     put_u32(record + DESK_RULING_AT_ADJUSTED, 304);

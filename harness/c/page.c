@@ -70,7 +70,7 @@ static int is_second_ruling(const uint8_t *ruling)
 {
     return begins(ruling, DESK_RULING_BYTES, DESK_KIND_RULING) && get_u32(ruling + DESK_RULING_AT_TRADE) == 2 &&
            ruling[DESK_RULING_AT_OUTCOME] == DESK_ADJUSTED && ruling[DESK_RULING_AT_REASON] == DESK_REASON_OPENING &&
-           ruling[DESK_RULING_AT_ORIGIN] == DESK_ORIGIN_QUOTE && ruling[DESK_RULING_AT_ZERO] == 0 &&
+           ruling[DESK_RULING_AT_ORIGIN] == DESK_ORIGIN_QUOTE && ruling[DESK_RULING_AT_ONE_ZERO] == 0 &&
            get_u32(ruling + DESK_RULING_AT_TP) == 2000 && get_u32(ruling + DESK_RULING_AT_NEW_PRICE) == 2000 &&
            get_u32(ruling + DESK_RULING_AT_ADJUSTED) == 20 && get_u32(ruling + DESK_RULING_AT_NULLIFIED) == 0 &&
            get_u32(ruling + DESK_RULING_AT_STANDING) == 10;

@@ -51,7 +51,7 @@ quote-exactly = origins.origin-quote
 pub official-exactly : (f : Facts) → Exactly (originOf (rulingOf f) ≡ 2) (OfOfficial f (rulingOf f))
 official-exactly = origins.origin-official
 
--- It is 0 exactly for the reasons 2, 3 and 14, whatever quotes and official's price stand in the record.
+-- It is 0 exactly for the reasons 2, 3 and 14.
 pub reasons-exactly : (f : Facts) → Exactly (originOf (rulingOf f) ≡ 0) (Without (rulingOf f .reason))
 reasons-exactly = origins.origin-reasons
 
