@@ -7,10 +7,10 @@ ghost use Rattle.wire.specs.Laid.{laid};
 ghost use Rattle.record.specs.Record.{factsOf};
 ghost use Rattle.answer.specs.Answer.{answerOf, caseOf};
 
-// Rules a case of 88 bytes and writes the 96 bytes over the start of the buffer; every byte after them stays. Whoever asks has tested the case
+// Rules a case and writes the 96 bytes over the start of the buffer; every byte after them stays. Whoever asks has tested the case
 // and the room.
 pub fn answer_case(out: &mut [u8], case: &[u8])
-    requires { ⌜ (96 ≤ length (now out)) × (length (now case) ≡ 88) ⌝ }
+    requires { ⌜ (96 ≤ length (now out)) × (88 ≤ length (now case)) ⌝ }
     ensures { λ _. ⌜ now (out .exit) ≡ laid (answerOf (factsOf (now (case .entry)))) (now (out .entry)) ⌝ }
 {
     let n = figures::judge(case);
@@ -21,7 +21,7 @@ pub fn answer_case(out: &mut [u8], case: &[u8])
 pub fn rule_case(case: &[u8], out: &mut [u8]) -> u8
     ensures { λ r. ⌜ (r ≡ caseOf (now (case .entry)) (length (now (out .entry))) .0) × (now (out .exit) ≡ laid (caseOf (now (case .entry)) (length (now (out .entry))) .1) (now (out .entry))) ⌝ }
 {
-    if case.len() != 88 {
+    if !forms::is_length(case.len()) {
         return 1;
     }
     if out.len() < 96 {

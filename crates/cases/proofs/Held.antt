@@ -11,7 +11,7 @@ use Rattle.cases.specs.Words.{Facts}
 use Rattle.cases.specs.Cases.{Held}
 
 pub held : (f : Facts) (vs : List Val) → Is (row the-type) f vs → Held f
-held f vs (values, (one, (trade, (market, (request, (buyer, (seller, rest))))))) =
+held f vs (values, (one, (form, (trade, (market, (request, (buyer, (seller, rest)))))))) =
     record {
       number = omega (arith, trade .1 .1 .0);
       buyer = sym (length-map (f .buyer .code) (λ v. v)) ∙ buyer .1 .1 .0 .1 .0 .1;

@@ -8,6 +8,8 @@ use lib.Dec.{leb, eqb}
 use borrow.Author.Tests.{le-leb, lt-leb, leb-true, eq-eqb, ne-eqb, eqb-true, eqb-false}
 use Rattle.wire.specs.Tests.{pick}
 use Rattle.wire.proofs.Tests.{both-true, none-fails, first-append}
+use Rattle.forms.specs.Forms.{formLength}
+use Rattle.forms.proofs.Heads.{has-88}
 use Rattle.record.specs.Record.{factsOf, recordBytes}
 use Rattle.refusals.specs.Tests.{lengthOk, headOk, zerosOk, listsOk, formTests, factTests, formFaultOf, faultOf}
 use Rattle.cases.specs.Words.{Facts}
@@ -51,12 +53,12 @@ module _ (s : List ℕ) where
       let t2 = none-fails (headOk s) 2 _ tt (t1 .1) in
       let t3 = none-fails (zerosOk s && listsOk s) 3 _ tt (t2 .1) in
       let z = both-true (zerosOk s) (listsOk s) (t3 .0) in
-      record { whole = eqb-true (length s) 88 (t1 .0); head = t2 .0; zeros = z .0; lists = z .1 }
+      record { whole = t1 .0; head = t2 .0; zeros = z .0; lists = z .1 }
 
   -- bytes that pass them so do, whatever the facts
   pub well-formed : Formed s → formFaultOf s ≡ 0
   unfolding formFaultOf
-  well-formed f = simp (eq-eqb (length s) 88 (f .whole), f .head, f .zeros, f .lists)
+  well-formed f = simp (f .whole, f .head, f .zeros, f .lists)
 
   -- ---- what is accepted
   pub accepts : readingOf s .refusal ≡ 0 → refusalOf s ≡ 0
@@ -68,8 +70,9 @@ module _ (s : List ℕ) where
     by-test true h z = eqb-true (formFaultOf s) 0 h
     by-test false h z = z
 
-  pub passed-whole : refusalOf s ≡ 0 → length s ≡ 88
-  passed-whole e = formed (passed-form e) .whole
+  -- every kind has the 88 bytes from which the facts are read
+  pub passed-whole : refusalOf s ≡ 0 → 88 ≤ length s
+  passed-whole e = has-88 (length s) (formed (passed-form e) .whole)
 
   pub accepted-form : readingOf s .refusal ≡ 0 → formFaultOf s ≡ 0
   accepted-form e = passed-form (accepts e)
@@ -85,35 +88,35 @@ module _ (s : List ℕ) where
 
 -- ---- writing
 module _ (f : Facts) (room : ℕ) where
-  refused-room : room < 88 → writeRefusalOf f room ≡ 11
+  refused-room : room < formLength (f .form) → writeRefusalOf f room ≡ 11
   unfolding writeRefusalOf
-  refused-room h = simp (lt-leb 88 room h)
+  refused-room h = simp (lt-leb (formLength (f .form)) room h)
 
-  in-room : 88 ≤ room → writeRefusalOf f room ≡ faultOf f
+  in-room : formLength (f .form) ≤ room → writeRefusalOf f room ≡ faultOf f
   unfolding writeRefusalOf faultOf
-  in-room h = simp (le-leb 88 room h)
+  in-room h = simp (le-leb (formLength (f .form)) room h)
 
   refusing : (n : ℕ) → writeRefusalOf f room ≡ n → (n ≡ 0 → ⊥) → writingOf f room ≡ (n, [])
   unfolding writingOf
   refusing n e h = simp (e, ne-eqb n 0 h)
 
-  pub writes-short : room < 88 → writingOf f room ≡ (11, [])
+  pub writes-short : room < formLength (f .form) → writingOf f room ≡ (11, [])
   writes-short h = refusing 11 (refused-room h) (eqb-false 11 0 refl)
 
-  pub writes-refused : (n : ℕ) → 88 ≤ room → n ≡ faultOf f → (n ≡ 0 → ⊥) → writingOf f room ≡ (n, [])
+  pub writes-refused : (n : ℕ) → formLength (f .form) ≤ room → n ≡ faultOf f → (n ≡ 0 → ⊥) → writingOf f room ≡ (n, [])
   writes-refused n h e k = refusing n (in-room h ∙ sym e) k
 
-  pub writes-facts : 88 ≤ room → faultOf f ≡ 0 → writingOf f room ≡ (0, recordBytes f)
+  pub writes-facts : formLength (f .form) ≤ room → faultOf f ≡ 0 → writingOf f room ≡ (0, recordBytes f)
   unfolding writingOf
   writes-facts h e = simp (eq-eqb (writeRefusalOf f room) 0 (in-room h ∙ e))
 
   -- what is written had room and passed the tests
-  pub writes : writingOf f room .0 ≡ 0 → (88 ≤ room) × (faultOf f ≡ 0)
+  pub writes : writingOf f room .0 ≡ 0 → (formLength (f .form) ≤ room) × (faultOf f ≡ 0)
   unfolding writingOf writeRefusalOf faultOf
   writes e = by-test (eqb (writeRefusalOf f room) 0) refl e where
-    passed : writeRefusalOf f room ≡ 0 → (88 ≤ room) × (faultOf f ≡ 0)
-    passed z = let t = none-fails (leb 88 room) 11 _ tt z in (leb-true 88 room (t .0), t .1)
+    passed : writeRefusalOf f room ≡ 0 → (formLength (f .form) ≤ room) × (faultOf f ≡ 0)
+    passed z = let t = none-fails (leb (formLength (f .form)) room) 11 _ tt z in (leb-true (formLength (f .form)) room (t .0), t .1)
 
-    by-test : (t : Bool) → eqb (writeRefusalOf f room) 0 ≡ t → pick {A = ℕ × List ℕ} t (0, recordBytes f) (writeRefusalOf f room, []) .0 ≡ 0 → (88 ≤ room) × (faultOf f ≡ 0)
+    by-test : (t : Bool) → eqb (writeRefusalOf f room) 0 ≡ t → pick {A = ℕ × List ℕ} t (0, recordBytes f) (writeRefusalOf f room, []) .0 ≡ 0 → (formLength (f .form) ≤ room) × (faultOf f ≡ 0)
     by-test true h z = passed (eqb-true (writeRefusalOf f room) 0 h)
     by-test false h z = passed z

@@ -6,8 +6,9 @@ use mathlib.Core.List.{List, [], _∷_, _++_}
 use lib.ListN.{length, replicate}
 use lib.Dec.{leb, eqb}
 use Rattle.wire.specs.Tests.{pick, firstFailed}
+use Rattle.forms.specs.Forms.{formLength}
 use Rattle.record.specs.Record.{factsOf, recordBytes}
-use Rattle.refusals.specs.Tests.{headOk, zerosOk, listsOk, formTests, factTests}
+use Rattle.refusals.specs.Tests.{lengthOk, headOk, zerosOk, listsOk, formTests, factTests}
 use Rattle.cases.specs.Words.{Facts, Reading}
 
 -- ---- reading a case tests 1, then 2 to 9
@@ -16,7 +17,7 @@ refusalOf s = firstFailed (formTests s ++ factTests (factsOf s))
 
 -- what passes the tests 1 to 3
 pub record Formed (s : List ℕ) : Type 0 where
-  pub whole : length s ≡ 88
+  pub whole : lengthOk s ≡ true
   pub head : headOk s ≡ true
   pub zeros : zerosOk s ≡ true
   pub lists : listsOk s ≡ true
@@ -31,9 +32,10 @@ refused n = record { refusal = n; facts = factsOf (replicate 88 0) }
 unfoldable pub readingOf : List ℕ → Reading
 readingOf s = pick (eqb (refusalOf s) 0) (accepted (factsOf s)) (refused (refusalOf s))
 
--- ---- writing a case tests 11, then 3 to 9 on the facts; 3 holds of any facts, whose codes have no case outside their lists
+-- ---- writing a case tests 11 by the length of the facts' own form, then 3 to 9 on the facts; 3 holds of any facts, whose codes have no case
+-- outside their lists
 unfoldable pub writeRefusalOf : Facts → ℕ → ℕ
-writeRefusalOf f room = firstFailed ((11, leb 88 room) ∷ factTests f)
+writeRefusalOf f room = firstFailed ((11, leb (formLength (f .form)) room) ∷ factTests f)
 
 -- the number, with the bytes that are written into a buffer of `room` bytes: none beside a refusal
 unfoldable pub writingOf : Facts → ℕ → ℕ × List ℕ

@@ -1,5 +1,5 @@
 // A case read and written: any byte string gives facts or the number of the first test that it fails; any facts give
-// 88 bytes or such a number. Refused with 1 to 9 in reading, 11 and 4 to 9 in writing (3 cannot arise there: the facts'
+// the bytes of their form or such a number. Refused with 1 to 9 in reading, 11 and 4 to 9 in writing (3 cannot arise there: the facts'
 // types have no other cases). A refused writing leaves the buffer as it was.
 ghost use mathlib.Core.Path.{_≡_};
 ghost use lib.ListN.{length, replicate};
@@ -11,6 +11,7 @@ use facts::Agreement;
 use facts::Contracts;
 use facts::Day;
 use facts::Facts;
+use facts::Form;
 use facts::Kind;
 use facts::Market;
 use facts::Mills;
@@ -44,6 +45,7 @@ fn no_facts() -> Facts
         kind: Kind::Other,
     };
     Facts {
+        form: Form::One,
         trade: Trade {
             number: 0,
             price: Mills(0),
@@ -109,12 +111,13 @@ pub fn read_case(s: &[u8]) -> Reading
     }
 }
 
-// Writes a case: tests 11, then 3 to 9. Answers the number, 0 where the 88 bytes are written. The promise also hands on what the type
-// of the facts gives (`Held`).
+// Writes a case: tests 11 (room for the form's own length), then 3 to 9. Answers the number, 0 where the bytes are written. The promise also
+// hands on what the type of the facts gives (`Held`).
 pub fn write_case(f: Facts, out: &mut [u8]) -> u8
     ensures { λ r. ⌜ (r ≡ writingOf f (length (now (out .entry))) .0) × (now (out .exit) ≡ laid (writingOf f (length (now (out .entry))) .1) (now (out .entry))) × Held f ⌝ }
 {
-    if out.len() < 88 {
+    let form = f.form;
+    if out.len() < forms::length_of(form) as usize {
         return 11;
     }
     let n = faults::fault(f);

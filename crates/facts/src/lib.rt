@@ -55,6 +55,13 @@ pub enum Agreement {
 
 // ---- the facts, in groups
 
+// The form of the record: its kind, with what that kind says besides what every kind says (`forms`).
+pub enum Form {
+    One,
+    // With the permitted differential.
+    Two(Mills),
+}
+
 pub struct Party {
     pub code: [u8; 4],
     pub limit: Price,
@@ -98,6 +105,7 @@ pub struct Settlement {
 }
 
 pub struct Facts {
+    pub form: Form,
     pub trade: Trade,
     pub market: Market,
     pub request: Request,

@@ -1,6 +1,7 @@
 // A ruling in the page's numbers: what the record, the notices and the printed line have in common. Nothing is refused here: every
 // ruling has its figures, and whoever has a case judged has tested its length.
 ghost use mathlib.Core.Path.{_≡_};
+ghost use Prim.Native.Nat.{_≤_};
 ghost use lib.ListN.{length};
 ghost use Rattle.record.specs.Record.{factsOf};
 ghost use Rattle.ruling.specs.Ruling.{rulingOf};
@@ -41,11 +42,11 @@ fn spell(trade: u32, reason: u8, origin: u8, tp: u32, price: u32, counts: Counts
     }
 }
 
-// The ruling on a case of 88 bytes, in the page's numbers. The outcome is decided by the reason, which `rule` promises to be the same.
+// The ruling on a case, in the page's numbers. The outcome is decided by the reason, which `rule` promises to be the same.
 // Reading, ruling and figures in one call, so that neither the facts nor the ruling need pass through memory; each outcome is spelt in its
 // own arm, since what has come together from several lies on the stack.
 pub fn judge(case: &[u8]) -> Figures
-    requires { ⌜ length (now case) ≡ 88 ⌝ }
+    requires { ⌜ 88 ≤ length (now case) ⌝ }
     ensures { λ n. ⌜ n ≡ figuresOf (rulingOf (factsOf (now (case .entry)))) ⌝ }
 {
     let r = ruling::rule(case);

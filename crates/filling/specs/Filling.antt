@@ -17,6 +17,7 @@ use Rattle.filling.specs.Words.{Quote, Facts, Found, Looked, Tried}
 abbrev pub quoted : Facts → Quote → Quote → Facts
 quoted f bid offer =
     record {
+      form = f .form;
       trade = f .trade;
       market = record { bid = bid; offer = offer; official = f .market .official };
       request = f .request;

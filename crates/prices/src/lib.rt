@@ -1,7 +1,7 @@
 // The tests 5 and 6 (RULE R3.5, R3.6): prices within their range or a permitted none; contracts, and sizes that fit their quotes. Their
 // definitions stand in `refusals`, beside those of the other tests, and `faults` tells the first that fails.
 ghost use mathlib.Core.Path.{_≡_};
-ghost use Rattle.refusals.specs.Tests.{millsOk, priceOk, quotesPriced, pricesOk, quoteOk, countsOk};
+ghost use Rattle.refusals.specs.Tests.{millsOk, priceOk, quotesPriced, differentialOk, pricesOk, quoteOk, countsOk};
 use facts::Facts;
 use facts::Market;
 use facts::Mills;
@@ -37,7 +37,16 @@ fn quotes_priced(m: Market) -> bool
     price_ok(bid_price) & price_ok(offer_price) & price_ok(official)
 }
 
-// The execution price, the quotes and the official's price, both limits, the agreed price.
+fn differential_ok(p: Price) -> bool
+    ensures { λ r. ⌜ r ≡ differentialOk p ⌝ }
+{
+    match p {
+        Price::At(m) => (1 <= m.0) & (m.0 <= 9999999),
+        Price::None => true,
+    }
+}
+
+// The execution price, the quotes and the official's price, both limits, the agreed price, the permitted differential.
 pub fn prices_ok(f: Facts) -> bool
     ensures { λ r. ⌜ r ≡ pricesOk f ⌝ }
 {
@@ -49,13 +58,14 @@ pub fn prices_ok(f: Facts) -> bool
     let lowest = seller.limit;
     let settlement = f.settlement;
     let agreed = settlement.agreed;
+    let form = f.form;
     if !mills_ok(execution) {
         return false;
     }
     if !quotes_priced(market) {
         return false;
     }
-    price_ok(highest) & price_ok(lowest) & price_ok(agreed)
+    price_ok(highest) & price_ok(lowest) & price_ok(agreed) & differential_ok(forms::differential_of(form))
 }
 
 // ---- 6: contracts and sizes

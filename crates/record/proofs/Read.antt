@@ -11,7 +11,8 @@ use Rattle.facts.specs.declared.Side.{Side}
 use Rattle.facts.specs.declared.Kind.{Kind}
 use Rattle.facts.specs.declared.Day.{Day}
 use Rattle.facts.specs.declared.Agreement.{Agreement}
-use Rattle.record.specs.Words.{Price, Moment, Party, Trade, Market, Request, Settlement}
+use Rattle.forms.specs.Forms.{formOf}
+use Rattle.record.specs.Words.{Price, Moment, Form, Party, Trade, Market, Request, Settlement}
 use Rattle.record.specs.Record.{tradeOf, marketOf, requestOf, partyAt, settlementOf, factsOf}
 
 module _ (s : List ℕ) where
@@ -69,13 +70,14 @@ module _ (s : List ℕ) where
   unfolding settlementOf
   settlement-read agreement p agreed made n accepted = cc
 
-  pub facts-read : {trade : Trade} {market : Market} {request : Request} {buyer seller : Party} {settlement : Settlement}
+  pub facts-read : {form : Form} {trade : Trade} {market : Market} {request : Request} {buyer seller : Party} {settlement : Settlement}
+      → form ≡ formOf s
       → trade ≡ tradeOf s
       → market ≡ marketOf s
       → request ≡ requestOf s
       → buyer ≡ partyAt s 48 64
       → seller ≡ partyAt s 56 65
       → settlement ≡ settlementOf s
-      → record { trade = trade; market = market; request = request; buyer = buyer; seller = seller; settlement = settlement } ≡ factsOf s
+      → record { form = form; trade = trade; market = market; request = request; buyer = buyer; seller = seller; settlement = settlement } ≡ factsOf s
   unfolding factsOf
-  facts-read trade market request buyer seller settlement = cc
+  facts-read form trade market request buyer seller settlement = cc

@@ -1,9 +1,11 @@
--- The case record, 88 bytes (RULE R2.6): what each row of the page's table says, and the bytes that say it.
+-- The case record (RULE R2.6): what each row of the page's table says, and the bytes that say it. What stands behind the first 88 is the form's
+-- (`forms`).
 use Prim.Native.Nat.{ℕ, _+_}
 use mathlib.Core.List.{List, [], _∷_, _++_}
 use lib.ListN.{getD}
 use Rattle.wire.specs.Numbers.{bytes, elements, numberAt, stored}
-use Rattle.record.specs.Words.{Seconds, Party, Trade, Market, Request, Settlement, Facts}
+use Rattle.forms.specs.Forms.{formLength, formKind, formTail, formOf}
+use Rattle.record.specs.Words.{Seconds, Form, Party, Trade, Market, Request, Settlement, Facts}
 use Rattle.facts.specs.Numbers.{mills, contracts, seconds, priceOf, priceNumber, momentOf, momentNumber}
 use Rattle.codes.specs.Codes.{sideOf, sideNumber, kindOf, kindNumber, dayOf, dayNumber, agreementOf, agreementNumber, flagOf, flagNumber}
 
@@ -53,6 +55,7 @@ settlementOf s =
 unfoldable pub factsOf : List ℕ → Facts
 factsOf s =
     record {
+      form = formOf s;
       trade = tradeOf s;
       market = marketOf s;
       request = requestOf s;
@@ -63,9 +66,9 @@ factsOf s =
 
 -- ---- the bytes that say facts, a stretch of the record after the other
 
--- 0 length 88; 2 kind 1
-abbrev pub headBytes : List ℕ
-headBytes = bytes 2 88 ++ bytes 2 1
+-- 0 length; 2 kind
+abbrev pub headBytes : Form → List ℕ
+headBytes form = bytes 2 (formLength form) ++ bytes 2 (formKind form)
 
 -- 4 trade number; 8 execution price; 12 contracts; 16 execution time
 abbrev pub tradeBytes : Trade → List ℕ
@@ -98,7 +101,11 @@ abbrev pub tailBytes : Seconds → Settlement → List ℕ
 tailBytes filed s =
     bytes 4 (priceNumber (s .agreed)) ++ bytes 4 (filed .0) ++ bytes 4 (s .made .0) ++ bytes 4 (momentNumber (s .accepted)) ++ bytes 4 0
 
+-- all of it in a form: what the form adds stands last
+abbrev pub bytesAs : Form → Facts → List ℕ
+bytesAs form f =
+    headBytes form ++ tradeBytes (f .trade) ++ marketBytes (f .market) ++ flagBytes (f .request) ++ partyBytes (f .buyer) ++ partyBytes (f .seller)
+    ++ listBytes f ++ tailBytes (f .request .filed) (f .settlement) ++ formTail form
+
 abbrev pub recordBytes : Facts → List ℕ
-recordBytes f =
-    headBytes ++ tradeBytes (f .trade) ++ marketBytes (f .market) ++ flagBytes (f .request) ++ partyBytes (f .buyer) ++ partyBytes (f .seller)
-    ++ listBytes f ++ tailBytes (f .request .filed) (f .settlement)
+recordBytes f = bytesAs (f .form) f

@@ -5,6 +5,7 @@ pub use Rattle.facts.specs.declared.Price.{Price}
 pub use Rattle.facts.specs.declared.Price.the-variants.{At, None}
 pub use Rattle.facts.specs.declared.Moment.{Moment}
 pub use Rattle.facts.specs.declared.Moment.the-variants.{After, Never}
+pub use Rattle.facts.specs.declared.Form.{Form}
 pub use Rattle.facts.specs.declared.Party.{Party}
 pub use Rattle.facts.specs.declared.Trade.{Trade}
 pub use Rattle.facts.specs.declared.Quote.{Quote}

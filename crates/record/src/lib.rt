@@ -1,4 +1,4 @@
-// The 88 bytes of a case record: the facts that they say, all of them or a group at a time, so that a step of a ruling reads what it needs
+// The bytes of a case record: the facts that they say, all of them or a group at a time, so that a step of a ruling reads what it needs
 // and no more. Nothing is refused here: whoever asks has tested the length (`cases`), and the tests of `refusals` judge the bytes and the facts.
 ghost use mathlib.Core.Path.{_≡_};
 ghost use Prim.Native.Nat.{_+_, _≤_, _<_};
@@ -42,7 +42,7 @@ fn party_at(s: &[u8], at: usize, kind_at: usize) -> Party
 
 // The trade: number, price, contracts, time of execution.
 pub fn trade_of(s: &[u8]) -> Trade
-    requires { ⌜ length (now s) ≡ 88 ⌝ }
+    requires { ⌜ 88 ≤ length (now s) ⌝ }
     ensures { λ r. ⌜ r ≡ tradeOf (now (s .entry)) ⌝ }
 {
     Trade {
@@ -55,7 +55,7 @@ pub fn trade_of(s: &[u8]) -> Trade
 
 // The market: bid and offer with their sizes, and the official's price.
 pub fn market_of(s: &[u8]) -> Market
-    requires { ⌜ length (now s) ≡ 88 ⌝ }
+    requires { ⌜ 88 ≤ length (now s) ⌝ }
     ensures { λ r. ⌜ r ≡ marketOf (now (s .entry)) ⌝ }
 {
     let bid = Quote {
@@ -75,7 +75,7 @@ pub fn market_of(s: &[u8]) -> Market
 
 // The request: side in error, the three flags, day and time of filing.
 pub fn request_of(s: &[u8]) -> Request
-    requires { ⌜ length (now s) ≡ 88 ⌝ }
+    requires { ⌜ 88 ≤ length (now s) ⌝ }
     ensures { λ r. ⌜ r ≡ requestOf (now (s .entry)) ⌝ }
 {
     Request {
@@ -90,14 +90,14 @@ pub fn request_of(s: &[u8]) -> Request
 
 // The kind by itself, for the steps that ask no more of a party.
 pub fn buyer_kind(s: &[u8]) -> Kind
-    requires { ⌜ length (now s) ≡ 88 ⌝ }
+    requires { ⌜ 88 ≤ length (now s) ⌝ }
     ensures { λ r. ⌜ r ≡ partyAt (now (s .entry)) 48 64 .kind ⌝ }
 {
     codes::kind_of(s[64])
 }
 
 pub fn seller_kind(s: &[u8]) -> Kind
-    requires { ⌜ length (now s) ≡ 88 ⌝ }
+    requires { ⌜ 88 ≤ length (now s) ⌝ }
     ensures { λ r. ⌜ r ≡ partyAt (now (s .entry)) 56 65 .kind ⌝ }
 {
     codes::kind_of(s[65])
@@ -105,14 +105,14 @@ pub fn seller_kind(s: &[u8]) -> Kind
 
 // A party with its code, its limit and its kind.
 pub fn buyer_of(s: &[u8]) -> Party
-    requires { ⌜ length (now s) ≡ 88 ⌝ }
+    requires { ⌜ 88 ≤ length (now s) ⌝ }
     ensures { λ r. ⌜ r ≡ partyAt (now (s .entry)) 48 64 ⌝ }
 {
     party_at(s, 48, 64)
 }
 
 pub fn seller_of(s: &[u8]) -> Party
-    requires { ⌜ length (now s) ≡ 88 ⌝ }
+    requires { ⌜ 88 ≤ length (now s) ⌝ }
     ensures { λ r. ⌜ r ≡ partyAt (now (s .entry)) 56 65 ⌝ }
 {
     party_at(s, 56, 65)
@@ -120,7 +120,7 @@ pub fn seller_of(s: &[u8]) -> Party
 
 // What the parties settled after notice: the agreement, its price and seconds, the acceptance.
 pub fn settlement_of(s: &[u8]) -> Settlement
-    requires { ⌜ length (now s) ≡ 88 ⌝ }
+    requires { ⌜ 88 ≤ length (now s) ⌝ }
     ensures { λ r. ⌜ r ≡ settlementOf (now (s .entry)) ⌝ }
 {
     Settlement {
@@ -131,12 +131,13 @@ pub fn settlement_of(s: &[u8]) -> Settlement
     }
 }
 
-// The facts that 88 bytes say.
+// The facts that a case says.
 pub fn facts_of(s: &[u8]) -> Facts
-    requires { ⌜ length (now s) ≡ 88 ⌝ }
+    requires { ⌜ 88 ≤ length (now s) ⌝ }
     ensures { λ r. ⌜ r ≡ factsOf (now (s .entry)) ⌝ }
 {
     Facts {
+        form: forms::form_of(s),
         trade: trade_of(s),
         market: market_of(s),
         request: request_of(s),

@@ -8,15 +8,17 @@ use lib.Dec.{leb, eqb}
 use Rattle.wire.specs.Numbers.{numberAt}
 use Rattle.wire.specs.Tests.{inRange, firstFailed}
 use Rattle.facts.specs.Limits.{violates}
+use Rattle.forms.specs.Heads.{isLength, known, sizeIn, kindIn}
+use Rattle.forms.specs.Forms.{differentialOf}
 use Rattle.refusals.specs.Words.{Mills, Contracts, Seconds, Price, At, None, Moment, After, Never, Buy, Sell, Day, TradeDate, NextDay, Later, Agreement, NotMade, OnPrice, ToNullify, Party, Trade, Market, Request, Settlement, Facts}
 
--- ---- 1: the case is 88 bytes long
+-- ---- 1: the case is as long as some kind of case, 88 or 92 bytes
 abbrev pub lengthOk : List ℕ → Bool
-lengthOk s = eqb (length s) 88
+lengthOk s = isLength (length s)
 
--- ---- 2: the length is 88 and the kind 1
+-- ---- 2: length and kind at its head are a pair that there is, (88, 1) or (92, 2), and that of its very length
 unfoldable pub headOk : List ℕ → Bool
-headOk s = eqb (numberAt 2 s 0) 88 && eqb (numberAt 2 s 2) 1
+headOk s = known (sizeIn s) (kindIn s) && eqb (sizeIn s) (length s)
 
 -- ---- 3: every zero byte is zero, and every coded byte is in its list
 unfoldable pub zerosOk : List ℕ → Bool
@@ -44,7 +46,8 @@ codeOk c = codeByteOk (getD c 0 0) && codeByteOk (getD c 1 0) && codeByteOk (get
 unfoldable pub codesOk : Party → Party → Bool
 codesOk buyer seller = codeOk (buyer .code) && codeOk (seller .code)
 
--- ---- 5: a price is at most 9,999,999; none passes wherever it is permitted, which is everywhere but for the execution price
+-- ---- 5: a price is at most 9,999,999; none passes wherever it is permitted, which is everywhere but for the execution price and the
+-- permitted differential
 abbrev pub millsOk : Mills → Bool
 millsOk m = leb (m .0) 9999999
 
@@ -55,6 +58,11 @@ priceOk None = true
 unfoldable pub quotesPriced : Market → Bool
 quotesPriced m = priceOk (m .bid .price) && priceOk (m .offer .price) && priceOk (m .official)
 
+-- a permitted differential, where the form has one, is 1 to 9,999,999
+abbrev pub differentialOk : Price → Bool
+differentialOk (At d) = inRange 1 9999999 (d .0)
+differentialOk None = true
+
 unfoldable pub pricesOk : Facts → Bool
 pricesOk f =
     millsOk (f .trade .price)
@@ -62,6 +70,7 @@ pricesOk f =
     && priceOk (f .buyer .limit)
     && priceOk (f .seller .limit)
     && priceOk (f .settlement .agreed)
+    && differentialOk (differentialOf (f .form))
 
 -- ---- 6: 1 to 1,000,000 contracts; a size is at most 1,000,000, at least 1 for a quote above zero, 0 for a quote of none
 abbrev pub quoteOk : Price → Contracts → Bool

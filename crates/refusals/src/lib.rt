@@ -1,23 +1,24 @@
 // The tests behind "Numbers given back instead of a ruling" (RULE R3), in the table's order.
 // Here the tests on bytes, 1 to 3; `faults` runs those on facts, 4 to 9, by the definitions that stand here beside each other.
 ghost use mathlib.Core.Path.{_≡_};
+ghost use Prim.Native.Nat.{_≤_};
 ghost use lib.ListN.{length};
 ghost use Rattle.wire.specs.Tests.{pick, inRange};
 ghost use Rattle.refusals.specs.Tests.{headOk, zerosOk, listsOk, formFaultOf};
 
-// ---- 2 and 3: tests on 88 bytes
+// ---- 2 and 3: tests on the bytes of a case
 
 fn head_ok(s: &[u8]) -> bool
-    requires { ⌜ length (now s) ≡ 88 ⌝ }
+    requires { ⌜ 88 ≤ length (now s) ⌝ }
     ensures { λ r. ⌜ r ≡ headOk (now (s .entry)) ⌝ }
 {
-    let length = wire::read_u16(s, 0);
+    let size = wire::read_u16(s, 0);
     let kind = wire::read_u16(s, 2);
-    (length == 88) & (kind == 1)
+    forms::is_known(size, kind) & (size as usize == s.len())
 }
 
 fn zeros_ok(s: &[u8]) -> bool
-    requires { ⌜ length (now s) ≡ 88 ⌝ }
+    requires { ⌜ 88 ≤ length (now s) ⌝ }
     ensures { λ r. ⌜ r ≡ zerosOk (now (s .entry)) ⌝ }
 {
     let first = wire::read_u32(s, 36);
@@ -62,7 +63,7 @@ fn one_to_three(b: u8) -> bool
 }
 
 fn lists_ok(s: &[u8]) -> bool
-    requires { ⌜ length (now s) ≡ 88 ⌝ }
+    requires { ⌜ 88 ≤ length (now s) ⌝ }
     ensures { λ r. ⌜ r ≡ listsOk (now (s .entry)) ⌝ }
 {
     one_or_two(s[44])
@@ -79,7 +80,7 @@ fn lists_ok(s: &[u8]) -> bool
 pub fn form_fault(s: &[u8]) -> u8
     ensures { λ r. ⌜ r ≡ formFaultOf (now (s .entry)) ⌝ }
 {
-    if s.len() != 88 {
+    if !forms::is_length(s.len()) {
         return 1;
     }
     let head = head_ok(s);

@@ -1,4 +1,4 @@
--- Facts that pass the tests come back from their 88 bytes.
+-- Facts that pass the tests come back from their bytes.
 use Prim.Native.Nat.{ℕ, _+_, _<_}
 use mathlib.Core.Path.{_≡_, refl, ap, _∙_}
 use mathlib.Core.Bool.{true, _||_}
@@ -9,13 +9,16 @@ use lib.ListN.{length, getD}
 use lib.Dec.{T, leb, ltb, eqb, lit<}
 use borrow.Author.Tests.{leb-true, ne-eqb, eqb-true, eqb-false}
 use Rattle.wire.specs.Numbers.{joined, bytes, elements, numberAt}
+use Rattle.wire.specs.Tests.{inRange}
 use Rattle.wire.proofs.Numbers.{joined-bytes}
 use Rattle.wire.proofs.Tests.{both-true, none-fails}
-use Rattle.facts.specs.Numbers.{priceOf, priceNumber, momentOf, momentNumber}
+use Rattle.facts.specs.Numbers.{mills, priceOf, priceNumber, momentOf, momentNumber}
+use Rattle.forms.specs.Words.{Form, One, Two}
+use Rattle.forms.specs.Forms.{differentialOf, formOf}
 use Rattle.codes.specs.Codes.{sideOf, kindOf, dayOf, agreementOf, flagOf}
 use Rattle.codes.proofs.Codes.{side-again, kind-again, day-again, agreement-again, flag-again}
-use Rattle.record.specs.Record.{tradeOf, marketOf, requestOf, partyAt, settlementOf, factsOf, recordBytes}
-use Rattle.refusals.specs.Tests.{millsOk, priceOk, momentOk, quoteOk, codesOk, quotesPriced, pricesOk, countsOk, timesOk, filedOk, faultOf}
+use Rattle.record.specs.Record.{tradeOf, marketOf, requestOf, partyAt, settlementOf, factsOf, bytesAs, recordBytes}
+use Rattle.refusals.specs.Tests.{millsOk, priceOk, differentialOk, momentOk, quoteOk, codesOk, quotesPriced, pricesOk, countsOk, timesOk, filedOk, faultOf}
 use Rattle.refusals.specs.Words.{Contracts, Price, At, None, Moment, After, Never, Party, Trade, Market, Request, Settlement, Facts}
 use Rattle.cases.specs.Cases.{Held}
 
@@ -54,6 +57,7 @@ pub record Sound (f : Facts) : Type 0 where
   pub highest : priceOk (f .buyer .limit) ≡ true
   pub lowest : priceOk (f .seller .limit) ≡ true
   pub agreed : priceOk (f .settlement .agreed) ≡ true
+  pub differential : differentialOk (differentialOf (f .form)) ≡ true
   pub contracts : leb (f .trade .contracts .0) 1000000 ≡ true
   pub bids : quoteOk (f .market .bid .price) (f .market .bid .size) ≡ true
   pub offers : quoteOk (f .market .offer .price) (f .market .offer .size) ≡ true
@@ -69,7 +73,8 @@ sound f e =
     let t5 = none-fails (pricesOk f) 5 _ tt (t4 .1) in
     let t6 = none-fails (countsOk (f .trade) (f .market)) 6 _ tt (t5 .1) in
     let t7 = none-fails (timesOk (f .trade) (f .request) (f .settlement)) 7 _ tt (t6 .1) in
-    let p1 = both-true _ (priceOk (f .settlement .agreed)) (t5 .0) in
+    let p0 = both-true _ (differentialOk (differentialOf (f .form))) (t5 .0) in
+    let p1 = both-true _ (priceOk (f .settlement .agreed)) (p0 .0) in
     let p2 = both-true _ (priceOk (f .seller .limit)) (p1 .0) in
     let p3 = both-true _ (priceOk (f .buyer .limit)) (p2 .0) in
     let p4 = both-true (millsOk (f .trade .price)) _ (p3 .0) in
@@ -90,6 +95,7 @@ sound f e =
       highest = p3 .1;
       lowest = p2 .1;
       agreed = p1 .1;
+      differential = p0 .1;
       contracts = c3 .1;
       bids = c2 .1;
       offers = c1 .1;
@@ -126,10 +132,10 @@ module _ (s : List ℕ) where
   unfolding settlementOf
   settlement-from t a b c d = simp (a, b, c, d)
 
-  facts-from : (f : Facts) → tradeOf s ≡ f .trade → marketOf s ≡ f .market → requestOf s ≡ f .request → partyAt s 48 64 ≡ f .buyer
+  facts-from : (f : Facts) → formOf s ≡ f .form → tradeOf s ≡ f .trade → marketOf s ≡ f .market → requestOf s ≡ f .request → partyAt s 48 64 ≡ f .buyer
       → partyAt s 56 65 ≡ f .seller → settlementOf s ≡ f .settlement → factsOf s ≡ f
   unfolding factsOf
-  facts-from f a b c d e g = simp (a, b, c, d, e, g)
+  facts-from f z a b c d e g = simp (z, a, b, c, d, e, g)
 
 -- a code of four bytes, byte by byte
 four : (c : List ℕ) → length c ≡ 4 → elements 4 c 0 ≡ c
@@ -146,6 +152,11 @@ number n h = joined-bytes 4 n h
 
 price : (n : ℕ) (p : Price) → (priceNumber p < 4294967296 → n ≡ priceNumber p) → priceOk p ≡ true → priceOf n ≡ p
 price n p e h = ap priceOf (e (price-fits p h)) ∙ price-again p h
+
+form-again : (form : Form) (f : Facts) → differentialOk (differentialOf form) ≡ true → formOf (bytesAs form f) ≡ form
+unfolding formOf numberAt inRange
+form-again One f ok = refl
+form-again (Two d) f ok = ap (λ (n : ℕ). Two (mills n)) (number (d .0) (below (d .0) 9999999 (both-true (leb 1 (d .0)) (leb (d .0) 9999999) ok .1) tt))
 
 module _ (f : Facts) (h : Held f) (z : Sound f) where
   trade-again : tradeOf (recordBytes f) ≡ f .trade
@@ -202,4 +213,4 @@ module _ (f : Facts) (h : Held f) (z : Sound f) where
       (ap momentOf (number _ (moment-fits (f .settlement .accepted) (z .accepted))) ∙ moment-again (f .settlement .accepted) (z .accepted))
 
   pub facts-again : factsOf (recordBytes f) ≡ f
-  facts-again = facts-from (recordBytes f) f trade-again market-again request-again buyer-again seller-again settlement-again
+  facts-again = facts-from (recordBytes f) f (form-again (f .form) f (z .differential)) trade-again market-again request-again buyer-again seller-again settlement-again

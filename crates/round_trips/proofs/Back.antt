@@ -3,7 +3,8 @@ use Prim.Native.Nat.{ℕ, _+_}
 use mathlib.Core.Path.{_≡_, refl, sym, ap, _∙_}
 use mathlib.Core.Bool.{true}
 use mathlib.Core.List.{List, _++_}
-use lib.ListN.{getD}
+use mathlib.Core.Logic.{⊎-elim}
+use lib.ListN.{length, getD}
 use lib.Dec.{eqb}
 use borrow.Author.Tests.{eqb-true}
 use Rattle.wire.specs.Numbers.{AreBytes, bytes, elements, numberAt}
@@ -13,6 +14,9 @@ use Rattle.wire.proofs.Tests.{both-true}
 use Rattle.facts.specs.Numbers.{priceOf, priceNumber, momentOf, momentNumber}
 use Rattle.facts.proofs.Numbers.{price-number, moment-number}
 use Rattle.codes.proofs.Codes.{side-number, kind-number, day-number, agreement-number, flag-number}
+use Rattle.forms.specs.Heads.{known, sizeIn, kindIn}
+use Rattle.forms.specs.Forms.{formTail, formOf}
+use Rattle.forms.proofs.Heads.{lengths, form-one, form-two, head-length, head-kind}
 use Rattle.record.specs.Record.{tradeOf, marketOf, requestOf, partyAt, settlementOf, factsOf, headBytes, tradeBytes, marketBytes, flagBytes, partyBytes, listBytes, tailBytes, recordBytes}
 use Rattle.refusals.specs.Tests.{headOk, zerosOk, listsOk}
 use Rattle.cases.specs.Cases.{Formed}
@@ -57,11 +61,8 @@ module _ (s : List ℕ) (small : AreBytes s) where
   known-at : (w i k : ℕ) → numberAt w s i ≡ k → bytes w k ≡ elements w s i
   known-at w i k e = ap (bytes w) (sym e) ∙ bytes-number s small w i
 
-  head-back : headOk s ≡ true → headBytes ≡ elements 4 s 0
-  unfolding headOk
-  head-back h =
-      let t = both-true (eqb (numberAt 2 s 0) 88) (eqb (numberAt 2 s 2) 1) h in
-      app _ _ _ _ (known-at 2 0 88 (eqb-true (numberAt 2 s 0) 88 (t .0))) (known-at 2 2 1 (eqb-true (numberAt 2 s 2) 1 (t .1)))
+  head-back : known (sizeIn s) (kindIn s) ≡ true → length s ≡ sizeIn s → headBytes (formOf s) ≡ elements 4 s 0
+  head-back pair long = app _ _ _ _ (known-at 2 0 _ (head-length s pair long)) (known-at 2 2 _ (head-kind s pair long))
 
   trade-back : tradeBytes (tradeOf s) ≡ elements 16 s 4
   unfolding tradeOf
@@ -89,16 +90,35 @@ module _ (s : List ℕ) (small : AreBytes s) where
   unfolding requestOf settlementOf
   tail-back z = app _ _ _ _ (price-at 68) (app _ _ _ _ (number-at 72) (app _ _ _ _ (number-at 76) (app _ _ _ _ (moment-at 80) (known-at 4 84 0 z))))
 
+  -- what the form adds is what stands behind the 88 bytes
+  one-back : length s ≡ 88 → formTail (formOf s) ≡ elements 0 s 88
+  one-back e = ap formTail (form-one s e)
+
+  two-back : length s ≡ 92 → formTail (formOf s) ≡ elements 4 s 88
+  two-back e = ap formTail (form-two s e) ∙ number-at 88
+
+  -- the stretches, with what stands behind them
+  module _ (f : Formed s) (w : ℕ) (behind : formTail (formOf s) ≡ elements w s 88) where
+    stretches : recordBytes (factsOf s)
+        ≡ elements 4 s 0
+        ++ (elements 16 s 4
+        ++ (elements 24 s 20 ++ (elements 4 s 44 ++ (elements 8 s 48 ++ (elements 8 s 56 ++ (elements 4 s 64 ++ (elements 20 s 68 ++ elements w s 88)))))))
+    unfolding factsOf zerosOk headOk
+    stretches =
+        let head = both-true (known (sizeIn s) (kindIn s)) (eqb (sizeIn s) (length s)) (f .head) in
+        let z = both-true (eqb (numberAt 4 s 36) 0) (eqb (numberAt 4 s 84) 0) (f .zeros) in
+        let l = listed s (f .lists) in
+        app _ _ _ _ (head-back (head .0) (sym (eqb-true (sizeIn s) (length s) (head .1))))
+        (app _ _ _ _ trade-back
+        (app _ _ _ _ (market-back (eqb-true (numberAt 4 s 36) 0 (z .0)))
+        (app _ _ _ _ (flags-back l)
+        (app _ _ _ _ (party-back 48 64)
+        (app _ _ _ _ (party-back 56 65)
+        (app _ _ _ _ (lists-back l) (app _ _ _ _ (tail-back (eqb-true (numberAt 4 s 84) 0 (z .1))) behind)))))))
+
   pub bytes-back : Formed s → recordBytes (factsOf s) ≡ s
-  unfolding factsOf zerosOk
   bytes-back f =
-      let z = both-true (eqb (numberAt 4 s 36) 0) (eqb (numberAt 4 s 84) 0) (f .zeros) in
-      let l = listed s (f .lists) in
-      app _ _ _ _ (head-back (f .head))
-      (app _ _ _ _ trade-back
-      (app _ _ _ _ (market-back (eqb-true (numberAt 4 s 36) 0 (z .0)))
-      (app _ _ _ _ (flags-back l)
-      (app _ _ _ _ (party-back 48 64)
-      (app _ _ _ _ (party-back 56 65)
-      (app _ _ _ _ (lists-back l) (tail-back (eqb-true (numberAt 4 s 84) 0 (z .1)))))))))
-      ∙ elements-all 88 s (f .whole)
+      ⊎-elim
+      (λ e. stretches f 0 (one-back e) ∙ elements-all 88 s e)
+      (λ e. stretches f 4 (two-back e) ∙ elements-all 92 s e)
+      (lengths (length s) (f .whole))

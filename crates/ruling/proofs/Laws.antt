@@ -83,7 +83,7 @@ module _ (f : Facts) (top : ℕ) (execution : f .trade .price .0 ≤ top) (bid :
       (λ c. leb-true (p .0) top (rw (heeded-price f way p (c .1)) at agreed))
       (λ c.
       rw (c .1) at (act-priced bands-sound way (f .request .side) (f .buyer) (f .seller) (acceptedInTime (f .settlement .accepted)) (f .trade .price) (s .price)
-      (g .error) top (theory-priced (f .request .side) (f .market) top s bid offer official (g .found)) execution))
+      (g .error) top (theory-priced (f .form) (f .request .side) (f .market) top s bid offer official (g .found)) execution))
       (g .cause)
 
   pub stays-priced : PricedUpTo top (rulingOf f)

@@ -45,12 +45,12 @@ module _ (f : Facts) where
   pub tp-number : theoryNumber (rulingOf f .tp) ≡ pick (notLookedFor (rulingOf f .reason)) (priceNumber None) (priceNumber (orElse (quoteIn f) (f .market .official)))
   tp-number =
       ap theoryNumber tp-told ∙ either-number theoryNumber shut (theoryIn f)
-      ∙ ap (pick shut (priceNumber None)) (theory-number (f .request .side) (f .market))
+      ∙ ap (pick shut (priceNumber None)) (theory-number (f .form) (f .request .side) (f .market))
 
   pub tp-origin : theoryOrigin (rulingOf f .tp) ≡ pick (notLookedFor (rulingOf f .reason)) 0 (originAmong (quoteIn f) (f .market .official))
   tp-origin =
       ap theoryOrigin tp-told ∙ either-number theoryOrigin shut (theoryIn f)
-      ∙ ap (pick shut 0) (theory-origin (f .request .side) (f .market))
+      ∙ ap (pick shut 0) (theory-origin (f .form) (f .request .side) (f .market))
 
   -- ---- each origin exactly
   abbrev size : Contracts

@@ -8,7 +8,7 @@ use Rattle.facts.specs.Numbers.{priceNumber}
 use Rattle.bands.specs.Table.{bandOf}
 use Rattle.parties.specs.Parties.{bySide}
 use Rattle.way.specs.Way.{wayOf}
-use Rattle.theory.specs.Theory.{quoteFor, theoryOf, theoryNumber, orElse, theoryOrigin, originAmong}
+use Rattle.theory.specs.Theory.{trustedPrice, theoryOf, theoryNumber, orElse, theoryOrigin, originAmong}
 use Rattle.act.specs.Numbers.{priceFor}
 use Rattle.ruling.specs.Words.{Contracts, Price, None, Side, Facts, Open, By, Closed, Theory, Found, Missing, Ruling}
 use Rattle.ruling.specs.Counts.{covered}
@@ -29,12 +29,13 @@ newPriceFor f r = pick (eqb (r .reason) 10) (priceNumber (f .settlement .agreed)
 abbrev pub wayIn : Facts → Open
 wayIn f = wayOf (f .trade .executed) (f .request) (bySide (f .request .side) (f .buyer .kind) (f .seller .kind))
 
--- the price of the quote that these facts have on the side in error, and the TP that is found for them where it is looked for
+-- the price of the quote that these facts have on the side in error, none where their quotes are too wide to trust; and the TP that is found
+-- for them where it is looked for
 abbrev pub quoteIn : Facts → Price
-quoteIn f = quoteFor (f .request .side) (f .market) .price
+quoteIn f = trustedPrice (f .form) (f .request .side) (f .market)
 
 abbrev pub theoryIn : Facts → Theory
-theoryIn f = theoryOf (f .request .side) (f .market)
+theoryIn f = theoryOf (f .form) (f .request .side) (f .market)
 
 -- No TP is looked for where no way is open (2) or a panel has already decided (3).
 abbrev pub notLookedFor : ℕ → Bool
@@ -49,7 +50,8 @@ coverFor n Closed t = 0
 pub record InNumbers (f : Facts) (r : Ruling) : Type 0 where
   -- the outcome is that of the reason
   pub outcome : outcomeNumber (r .outcome) ≡ reasonOutcome (r .reason)
-  -- TP is the quote's price, or the official's where that is none; it is none where the reason is 2 or 3, whatever stands in the record
+  -- TP is the quote's price, or the official's where that is none or not to be trusted; it is none where the reason is 2 or 3, whatever stands
+  -- in the record
   pub tp : theoryNumber (r .tp) ≡ pick (notLookedFor (r .reason)) (priceNumber None) (priceNumber (orElse (quoteIn f) (f .market .official)))
   -- its origin is 1, 2 or 0 by the same two prices, and 0 where the reason is 2 or 3
   pub origin : theoryOrigin (r .tp) ≡ pick (notLookedFor (r .reason)) 0 (originAmong (quoteIn f) (f .market .official))

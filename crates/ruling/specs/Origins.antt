@@ -13,11 +13,11 @@ tpOf r = theoryPrice (r .tp)
 abbrev pub originOf : Ruling → ℕ
 originOf r = theoryOrigin (r .tp)
 
--- TP is the price of the side's quote
+-- TP is the price of the side's quote, which can be trusted
 abbrev pub OfQuote : Facts → Ruling → Type 0
 OfQuote f r = (p : Mills) × (tpOf r ≡ At p) × (quoteIn f ≡ At p)
 
--- that quote is none, and TP is the official's price
+-- that quote is none or too wide to trust, and TP is the official's price
 abbrev pub OfOfficial : Facts → Ruling → Type 0
 OfOfficial f r = (p : Mills) × (tpOf r ≡ At p) × (quoteIn f ≡ None) × (f .market .official ≡ At p)
 

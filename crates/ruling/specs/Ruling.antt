@@ -54,13 +54,13 @@ ruledAt f way s =
     (settled f way s (heededOf (f .settlement) way (anyCustomer (f .buyer .kind) (f .seller .kind))))
     (noRelief (f .trade) 1 (Found s))
 
--- ---- then the theoretical price: where there is none the case waits (14) (RULE R5)
+-- ---- then the theoretical price, by the form of the record: where there is none the case waits (14) (RULE R5)
 abbrev pub ruledFrom : Facts → Way → Theory → Ruling
 ruledFrom f way (Found s) = ruledAt f way s
 ruledFrom f way Missing = waiting (f .trade)
 
 unfoldable pub ruledOn : Facts → Way → Ruling
-ruledOn f way = ruledFrom f way (theoryOf (f .request .side) (f .market))
+ruledOn f way = ruledFrom f way (theoryOf (f .form) (f .request .side) (f .market))
 
 -- ---- first the way: on the catastrophic way a panel that has already decided ends it (3); where none is open, no relief (2); neither has a TP,
 -- whatever quotes stand in the record (RULE R4.4, R4.5, R10.1.12)

@@ -3,6 +3,7 @@
 // Refuses nothing: a record that was not accepted has a ruling too, and nobody asks for it; whoever asks has tested the length.
 // Contracts are subtracted here and nowhere else; besides, only the tests (`prices`) compare them, with their bounds.
 ghost use mathlib.Core.Path.{_≡_};
+ghost use Prim.Native.Nat.{_≤_};
 ghost use lib.ListN.{length};
 ghost use Rattle.record.specs.Record.{factsOf};
 ghost use Rattle.ruling.specs.Counts.{coveredBy, covered, restOf};
@@ -169,7 +170,7 @@ fn carry_out(trade: Trade, way: Way, source: Source, act: Act) -> Ruling
 
 // Agreement, then the act.
 fn settle(case: &[u8], way: Way, source: Source, heeded: Heeded) -> Ruling
-    requires { ⌜ length (now case) ≡ 88 ⌝ }
+    requires { ⌜ 88 ≤ length (now case) ⌝ }
     ensures { λ r. ⌜ r ≡ settled (factsOf (now (case .entry))) way source heeded ⌝ }
 {
     match heeded {
@@ -192,7 +193,7 @@ fn settle(case: &[u8], way: Way, source: Source, heeded: Heeded) -> Ruling
 
 // The error, then agreement.
 fn rule_at(case: &[u8], way: Way, source: Source) -> Ruling
-    requires { ⌜ length (now case) ≡ 88 ⌝ }
+    requires { ⌜ 88 ≤ length (now case) ⌝ }
     ensures { λ r. ⌜ r ≡ ruledAt (factsOf (now (case .entry))) way source ⌝ }
 {
     let trade = record::trade_of(case);
@@ -211,12 +212,12 @@ fn rule_at(case: &[u8], way: Way, source: Source) -> Ruling
 
 // The theoretical price, then the error; where no one gave a price the case waits.
 fn rule_on(case: &[u8], way: Way) -> Ruling
-    requires { ⌜ length (now case) ≡ 88 ⌝ }
+    requires { ⌜ 88 ≤ length (now case) ⌝ }
     ensures { λ r. ⌜ r ≡ ruledOn (factsOf (now (case .entry))) way ⌝ }
 {
     let request = record::request_of(case);
     let side = request.side;
-    let found = theory::find_theory(side, record::market_of(case));
+    let found = theory::find_theory(forms::form_of(case), side, record::market_of(case));
     let Theory::Found(source) = found else {
         return wait(record::trade_of(case));
     };
@@ -224,7 +225,7 @@ fn rule_on(case: &[u8], way: Way) -> Ruling
 }
 
 fn rule_by(case: &[u8], way: Way) -> Ruling
-    requires { ⌜ length (now case) ≡ 88 ⌝ }
+    requires { ⌜ 88 ≤ length (now case) ⌝ }
     ensures { λ r. ⌜ r ≡ ruledBy (factsOf (now (case .entry))) way ⌝ }
 {
     match way {
@@ -240,9 +241,9 @@ fn rule_by(case: &[u8], way: Way) -> Ruling
     }
 }
 
-// The ruling on the facts of a case of 88 bytes: the way first. In the page's numbers, outcome, price and counts are those of its reason.
+// The ruling on the facts of a case: the way first. In the page's numbers, outcome, price and counts are those of its reason.
 pub fn rule(case: &[u8]) -> Ruling
-    requires { ⌜ length (now case) ≡ 88 ⌝ }
+    requires { ⌜ 88 ≤ length (now case) ⌝ }
     ensures { λ r. ⌜ (r ≡ rulingOf (factsOf (now (case .entry)))) × InNumbers (factsOf (now (case .entry))) r ⌝ }
 {
     let trade = record::trade_of(case);

@@ -1,9 +1,12 @@
--- The theoretical price, TP, and its origin (RULE R5; document 003 (a)(2)).
+-- The theoretical price, TP, and its origin (RULE R5; document 003 (a)(2), and of quotes too wide to trust document 000, struck (a)(2)(B)).
 use Prim.Native.Nat.{ℕ}
 use mathlib.Core.Bool.{Bool, true}
 use lib.Dec.{leb}
+use Rattle.wire.specs.Tests.{pick}
 use Rattle.facts.specs.Numbers.{priceNumber}
-use Rattle.theory.specs.Words.{Contracts, Price, At, None, Side, Buy, Sell, Quote, Market, Origin, Quoted, Official, Theory, Found, Missing}
+use Rattle.forms.specs.Forms.{differentialOf}
+use Rattle.width.specs.Width.{wide}
+use Rattle.theory.specs.Words.{Contracts, Price, At, None, Side, Buy, Sell, Form, Quote, Market, Origin, Quoted, Official, Theory, Found, Missing}
 
 -- A buy is held against the best offer, a sell against the best bid (RULE R5.1).
 abbrev pub quoteFor : Side → Market → Quote
@@ -20,8 +23,16 @@ abbrev pub sourceOf : Price → Contracts → Price → Theory
 sourceOf (At p) size official = Found (record { price = p; origin = Quoted size })
 sourceOf None size official = officialSource official
 
-unfoldable pub theoryOf : Side → Market → Theory
-theoryOf side m = sourceOf (quoteFor side m .price) (quoteFor side m .size) (m .official)
+-- Quotes that are too wide by the record's differential count as none (RULE R5.8); a record without one, of kind 1, trusts every quote (RULE R5.10).
+abbrev pub tooWide : Form → Market → Bool
+tooWide form m = wide (differentialOf form) (m .bid .price) (m .offer .price)
+
+-- the price of the side's quote, where the quotes can be trusted
+abbrev pub trustedPrice : Form → Side → Market → Price
+trustedPrice form side m = pick (tooWide form m) None (quoteFor side m .price)
+
+unfoldable pub theoryOf : Form → Side → Market → Theory
+theoryOf form side m = sourceOf (trustedPrice form side m) (quoteFor side m .size) (m .official)
 
 -- ---- TP as a number
 

@@ -4,6 +4,7 @@ pub use Rattle.facts.specs.declared.Price.{Price}
 pub use Rattle.facts.specs.declared.Price.the-variants.{At, None}
 pub use Rattle.facts.specs.declared.Side.{Side}
 pub use Rattle.facts.specs.declared.Side.the-variants.{Buy, Sell}
+pub use Rattle.facts.specs.declared.Form.{Form}
 pub use Rattle.facts.specs.declared.Quote.{Quote}
 pub use Rattle.facts.specs.declared.Market.{Market}
 pub use Rattle.theory.specs.declared.Origin.{Origin}

@@ -1,9 +1,11 @@
 // The theoretical price (TP) of a trade and its origin: a quote of the market, with its size, or an official. Refuses nothing: where no one
-// gave a price the answer says so, and the ruling lets the case wait. No price is compared here: TP is one of the three prices, as it stands.
+// gave a price the answer says so, and the ruling lets the case wait. No price is compared here: TP is one of the three prices, as it stands,
+// and whether the quotes can be trusted is `width`'s to say.
 ghost use mathlib.Core.Path.{_≡_};
 ghost use Rattle.facts.specs.Numbers.{priceNumber};
-ghost use Rattle.theory.specs.Theory.{quoteFor, sourceOf, theoryOf, theoryNumber, orElse, originNumber, theoryOrigin, originAmong};
+ghost use Rattle.theory.specs.Theory.{quoteFor, officialSource, sourceOf, trustedPrice, theoryOf, theoryNumber, orElse, originNumber, theoryOrigin, originAmong};
 use facts::Contracts;
+use facts::Form;
 use facts::Market;
 use facts::Mills;
 use facts::Price;
@@ -37,6 +39,19 @@ fn quote_for(side: Side, market: Market) -> Quote
     }
 }
 
+// The official's price, for every contract, or none.
+fn take_official(official: Price) -> Theory
+    ensures { λ r. ⌜ r ≡ officialSource official ⌝ }
+{
+    match official {
+        Price::At(m) => Theory::Found(Source {
+            price: m,
+            origin: Origin::Official,
+        }),
+        Price::None => Theory::Missing,
+    }
+}
+
 // A quote's price; where it is none, the official's.
 fn take_source(quote: Quote, official: Price) -> Theory
     ensures { λ r. ⌜ r ≡ sourceOf (quote .price) (quote .size) official ⌝ }
@@ -50,22 +65,19 @@ fn take_source(quote: Quote, official: Price) -> Theory
                 origin: Origin::Quoted(size),
             })
         }
-        Price::None => match official {
-            Price::At(m) => Theory::Found(Source {
-                price: m,
-                origin: Origin::Official,
-            }),
-            Price::None => Theory::Missing,
-        },
+        Price::None => take_official(official),
     }
 }
 
-// The theoretical price for the side in error, and its origin.
-pub fn find_theory(side: Side, market: Market) -> Theory
-    ensures { λ r. ⌜ (r ≡ theoryOf side market) × (theoryNumber r ≡ priceNumber (orElse (quoteFor side market .price) (market .official))) × (theoryOrigin r ≡ originAmong (quoteFor side market .price) (market .official)) ⌝ }
+// The theoretical price for the side in error, and its origin: quotes too wide for the record's differential are passed over.
+pub fn find_theory(form: Form, side: Side, market: Market) -> Theory
+    ensures { λ r. ⌜ (r ≡ theoryOf form side market) × (theoryNumber r ≡ priceNumber (orElse (trustedPrice form side market) (market .official))) × (theoryOrigin r ≡ originAmong (trustedPrice form side market) (market .official)) ⌝ }
 {
-    let quote = quote_for(side, market);
     let official = market.official;
+    if width::is_wide(forms::differential_of(form), market) {
+        return take_official(official);
+    }
+    let quote = quote_for(side, market);
     take_source(quote, official)
 }
 

@@ -1,12 +1,14 @@
-// The 88 bytes that say facts, written over the start of a lent buffer, a stretch of the record after the other. Nothing is
-// refused here: `cases` has tested the room and the facts. What the bytes are is defined in `record`, beside what they say.
+// The bytes that say facts, written over the start of a lent buffer, a stretch of the record after the other, and what its form adds last.
+// Nothing is refused here: `cases` has tested the room and the facts. What the bytes are is defined in `record`, beside what they say.
 ghost use mathlib.Core.Path.{_≡_};
 ghost use Prim.Native.Nat.{_+_, _≤_};
 ghost use lib.ListN.{length};
 ghost use Rattle.wire.specs.Numbers.{stored};
 ghost use Rattle.wire.specs.Laid.{laid};
+ghost use Rattle.forms.specs.Forms.{formLength};
 ghost use Rattle.record.specs.Record.{headBytes, tradeBytes, marketBytes, flagBytes, partyStored, listBytes, tailBytes, recordBytes};
 use facts::Facts;
+use facts::Form;
 use facts::Market;
 use facts::Party;
 use facts::Request;
@@ -14,12 +16,12 @@ use facts::Seconds;
 use facts::Settlement;
 use facts::Trade;
 
-fn put_head(out: &mut [u8])
+fn put_head(out: &mut [u8], form: Form)
     requires { ⌜ 88 ≤ length (now out) ⌝ }
-    ensures { λ _. ⌜ now (out .exit) ≡ stored (now (out .entry)) 0 headBytes ⌝ }
+    ensures { λ _. ⌜ now (out .exit) ≡ stored (now (out .entry)) 0 (headBytes form) ⌝ }
 {
-    wire::put_u16(out, 0, 88);
-    wire::put_u16(out, 2, 1);
+    wire::put_u16(out, 0, forms::length_of(form));
+    wire::put_u16(out, 2, forms::kind_of(form));
 }
 
 fn put_trade(out: &mut [u8], t: Trade)
@@ -109,12 +111,13 @@ fn put_tail(out: &mut [u8], filed: Seconds, s: Settlement)
     wire::put_u32(out, 84, 0);
 }
 
-// The 88 bytes that say these facts, over the start of the buffer; every byte after them stays.
+// The bytes that say these facts, over the start of the buffer; every byte after them stays.
 pub fn put_facts(out: &mut [u8], f: Facts)
-    requires { ⌜ 88 ≤ length (now out) ⌝ }
+    requires { ⌜ (88 ≤ length (now out)) × (formLength (f .form) ≤ length (now out)) ⌝ }
     ensures { λ _. ⌜ now (out .exit) ≡ laid (recordBytes f) (now (out .entry)) ⌝ }
 {
-    put_head(out);
+    let form = f.form;
+    put_head(out, form);
     put_trade(out, f.trade);
     put_market(out, f.market);
     put_flags(out, f.request);
@@ -122,4 +125,5 @@ pub fn put_facts(out: &mut [u8], f: Facts)
     put_party(out, 56, f.seller);
     put_lists(out, f);
     put_tail(out, f.request.filed, f.settlement);
+    forms::put_form(out, form);
 }

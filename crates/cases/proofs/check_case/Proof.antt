@@ -1,4 +1,5 @@
 use Rattle.cases.proofs.Laws.{formed, form-decides, facts-decide}
+use Rattle.forms.proofs.Heads.{has-88}
 use mathlib.Core.Path.{sym, _∙_}
 use borrow.Author.Needs.{needs}
 use Rattle.cases.proofs.check_case.Statement.{statement}
@@ -11,7 +12,7 @@ returns : tie.Need-returns
 returns c = form-decides _ _ (c .before .form-fault .ensures) (c .if1 .taken)
 
 facts-of-requires : tie.Need-facts-of-requires
-facts-of-requires c κs = formed _ (sym (c .before .form-fault .ensures) ∙ c .if1 .left) .whole
+facts-of-requires c κs = has-88 _ (formed _ (sym (c .before .form-fault .ensures) ∙ c .if1 .left) .whole)
 
 fault-requires : tie.Need-fault-requires
 fault-requires c κs = search needs

@@ -1,7 +1,7 @@
-use mathlib.Core.Path.{sym, ap₂, _∙_}
+use mathlib.Core.Path.{sym, ap, ap₂, _∙_}
 use mathlib.Core.Bool.{_&&_}
 use Rattle.wire.proofs.Tests.{fails, holds}
-use Rattle.refusals.specs.Tests.{pricesOk}
+use Rattle.refusals.specs.Tests.{differentialOk, pricesOk}
 use borrow.Author.Needs.{needs}
 use Rattle.prices.proofs.prices_ok.Statement.{statement}
 use Rattle.prices.proofs.prices_ok.Tie as tie
@@ -31,16 +31,24 @@ price-ok-requires-2 c κs = search needs
 price-ok-requires-3 : tie.Need-price-ok-requires-3
 price-ok-requires-3 c κs = search needs
 
+differential-of-requires : tie.Need-differential-of-requires
+differential-of-requires c κs = search needs
+
+differential-ok-requires : tie.Need-differential-ok-requires
+differential-ok-requires c κs = search needs
+
 returns-3 : tie.Need-returns-3
 unfolding pricesOk
 returns-3 c =
-    let two = c .before .before .before in
+    let agreed = c .before .before in
+    let two = agreed .before .before .before in
     let one = two .before .before in
     simp (
       sym (one .before .mills-ok .ensures) ∙ holds _ (one .if1 .left),
       sym (two .before .quotes-priced .ensures) ∙ holds _ (two .if2 .left),
     )
-    (ap₂ _&&_ (ap₂ _&&_ (c .before .before .price-ok .ensures) (c .before .price-ok2 .ensures)) (c .price-ok3 .ensures))
+    (ap₂ _&&_ (ap₂ _&&_ (ap₂ _&&_ (agreed .before .before .price-ok .ensures) (agreed .before .price-ok2 .ensures)) (agreed .price-ok3 .ensures))
+    (c .differential-ok .ensures ∙ ap differentialOk (c .before .differential-of .ensures)))
 
 pub prices-ok-spec : {M : Type 1} → statement M
 prices-ok-spec =
@@ -53,4 +61,6 @@ prices-ok-spec =
     price-ok-requires
     price-ok-requires-2
     price-ok-requires-3
+    differential-of-requires
+    differential-ok-requires
     returns-3)

@@ -3,6 +3,9 @@ use borrow.Author.Needs.{needs}
 use Rattle.record.proofs.facts_of.Statement.{statement}
 use Rattle.record.proofs.facts_of.Tie as tie
 
+form-of-requires : tie.Need-form-of-requires
+form-of-requires c κs = search needs
+
 trade-of-requires : tie.Need-trade-of-requires
 trade-of-requires c κs = search needs
 
@@ -24,6 +27,7 @@ settlement-of-requires c κs = search needs
 returns : tie.Need-returns
 returns c =
     facts-read _
+    (c .before .before .before .before .before .before .form-of .ensures)
     (c .before .before .before .before .before .trade-of .ensures)
     (c .before .before .before .before .market-of .ensures)
     (c .before .before .before .request-of .ensures)
@@ -35,6 +39,7 @@ pub facts-of-spec : {M : Type 1} → statement M
 facts-of-spec =
     tie.close
     (tie.spec
+    form-of-requires
     trade-of-requires
     market-of-requires
     request-of-requires

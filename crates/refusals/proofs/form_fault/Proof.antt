@@ -1,13 +1,19 @@
 use Prim.Native.Nat.{ℕ}
-use mathlib.Core.Path.{_≡_}
-use mathlib.Core.Bool.{Bool, true, _&&_}
+use mathlib.Core.Path.{_≡_, sym, _∙_}
+use mathlib.Core.Bool.{Bool, true, false, _&&_}
 use mathlib.Core.List.{List}
 use Rattle.wire.specs.Tests.{pick}
+use Rattle.wire.proofs.Tests.{fails, holds}
+use Rattle.forms.proofs.Heads.{has-88}
 use Rattle.refusals.specs.Tests.{lengthOk, headOk, zerosOk, listsOk, formFaultOf}
-use borrow.Author.Tests.{eq-eqb, ne-eqb}
 use borrow.Author.Needs.{needs}
 use Rattle.refusals.proofs.form_fault.Statement.{statement}
 use Rattle.refusals.proofs.form_fault.Tie as tie
+
+-- Another length is told before anything else.
+untold : (s : List ℕ) → lengthOk s ≡ false → 1 ≡ formFaultOf s
+unfolding formFaultOf
+untold s length = simp length
 
 -- Where the length is right, the tests on the bytes tell.
 told : (s : List ℕ) {head zeros lists : Bool} {three two : ℕ}
@@ -21,18 +27,20 @@ told : (s : List ℕ) {head zeros lists : Bool} {three two : ℕ}
 unfolding formFaultOf
 told s length head zeros lists three two = simp length cc
 
+is-length-requires : tie.Need-is-length-requires
+is-length-requires c κs = search needs
+
 returns : tie.Need-returns
-unfolding formFaultOf
-returns c = simp (ne-eqb _ _ (c .if1 .taken))
+returns c = untold _ (sym (c .before .is-length .ensures) ∙ fails _ (c .if1 .taken))
 
 head-ok-requires : tie.Need-head-ok-requires
-head-ok-requires c κs = search needs
+head-ok-requires c κs = has-88 _ (sym (c .before .is-length .ensures) ∙ holds _ (c .if1 .left))
 
 zeros-ok-requires : tie.Need-zeros-ok-requires
-zeros-ok-requires c κs = search needs
+zeros-ok-requires c κs = let t = c .before in has-88 _ (sym (t .before .is-length .ensures) ∙ holds _ (t .if1 .left))
 
 lists-ok-requires : tie.Need-lists-ok-requires
-lists-ok-requires c κs = search needs
+lists-ok-requires c κs = let t = c .before .before in has-88 _ (sym (t .before .is-length .ensures) ∙ holds _ (t .if1 .left))
 
 unless-requires : tie.Need-unless-requires
 unless-requires c κs = search needs
@@ -42,13 +50,17 @@ unless-requires-2 c κs = search needs
 
 returns-2 : tie.Need-returns-2
 returns-2 c =
-    told _ (eq-eqb _ _ (c .before .before .before .before .before .if1 .left)) (c .before .before .before .before .head-ok .ensures) (c .before .before .before .zeros-ok .ensures) (c .before .before .lists-ok .ensures)
-    (c .before .unless .ensures) (c .unless2 .ensures)
+    let lists = c .before .before in
+    let head = lists .before .before in
+    let t = head .before in
+    told _ (sym (t .before .is-length .ensures) ∙ holds _ (t .if1 .left)) (head .head-ok .ensures) (lists .before .zeros-ok .ensures) (lists .lists-ok .ensures) (c .before .unless .ensures)
+    (c .unless2 .ensures)
 
 pub form-fault-spec : {M : Type 1} → statement M
 form-fault-spec =
     tie.close
     (tie.spec
+    is-length-requires
     returns
     head-ok-requires
     zeros-ok-requires

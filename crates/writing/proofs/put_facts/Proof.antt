@@ -28,11 +28,15 @@ put-lists-requires c κs = search needs
 put-tail-requires : tie.Need-put-tail-requires
 put-tail-requires c κs = search needs
 
+put-form-requires : tie.Need-put-form-requires
+put-form-requires c κs = search needs
+
 same-length : tie.Need-same-length
 same-length c = search needs
 
 returns : tie.Need-returns
-returns c = let tail = c .before .before in
+returns c = let form = c .before .before in
+    let tail = form .before .before .before .before in
     let lists = tail .before .before .before .before in
     let seller = lists .before .before .before .before in
     let buyer = seller .before .before .before .before in
@@ -41,7 +45,7 @@ returns c = let tail = c .before .before in
     let trade = market .before .before .before .before in
     let head = trade .before .before .before .before in
     let start = head .before .before .before in
-    written (start .args .f) (now (start .args .out)) _ _ _ _ _ _ _ _ (start .pre)
+    written (start .args .f) (now (start .args .out)) _ _ _ _ _ _ _ _ _ (start .pre .1)
     (head .put-head .ensures)
     (trade .put-trade .ensures)
     (market .put-market .ensures)
@@ -50,6 +54,7 @@ returns c = let tail = c .before .before in
     (seller .put-party2 .ensures)
     (lists .put-lists .ensures)
     (tail .put-tail .ensures)
+    (form .put-form .ensures)
 
 pub put-facts-spec : {M : Type 1} → statement M
 put-facts-spec =
@@ -63,5 +68,6 @@ put-facts-spec =
     put-party-requires-2
     put-lists-requires
     put-tail-requires
+    put-form-requires
     same-length
     returns)
