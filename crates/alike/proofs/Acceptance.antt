@@ -58,7 +58,7 @@ module _ (f : Facts) (m : Moment) where
 
   same-on : (way : Way) → NotAsked (ruledOn f way) → ruledOn g way ≡ ruledOn f way
   unfolding ruledOn
-  same-on way k = same-from way (theoryOf (f .request .side) (f .market)) k
+  same-on way k = same-from way (theoryOf (f .form) (f .request .side) (f .market)) k
 
   same-by : (way : Way) → NotAsked (ruledBy f way) → ruledBy g way ≡ ruledBy f way
   unfolding ruledBy

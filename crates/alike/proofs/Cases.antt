@@ -6,16 +6,17 @@ use mathlib.Core.Logic.{inl, inr}
 use mathlib.Core.Bool.{true, _||_}
 use mathlib.Core.List.{List, [], _∷_}
 use native.Mathlib.Omega.{arith}
-use lib.ListN.{getD}
+use lib.ListN.{length, getD}
 use lib.Dec.{eqb, lit≤}
 use borrow.Author.Tests.{eqb-false}
 use Rattle.wire.specs.Numbers.{joined, elementsFrom, elements, numberAt}
 use Rattle.wire.specs.Tests.{pick, inRange}
 use Rattle.wire.proofs.Tests.{both-true, none-fails}
+use Rattle.forms.specs.Forms.{formOf}
 use Rattle.record.specs.Record.{tradeOf, marketOf, requestOf, partyAt, settlementOf, factsOf}
 use Rattle.refusals.specs.Tests.{codeByteOk, codeOk, codesOk, faultOf}
 use Rattle.cases.specs.Cases.{readingOf}
-use Rattle.cases.proofs.Laws.{accepted-facts}
+use Rattle.cases.proofs.Laws.{accepts, accepted-facts, passed-case}
 use Rattle.parties.specs.Parties.{bySide}
 use Rattle.ruling.specs.Outcomes.{outcomeNumber}
 use Rattle.ruling.specs.Ruling.{rulingOf}
@@ -63,6 +64,10 @@ module _ (who : Side) (s t : List ℕ) (same : AlikeBut who s t) where
   high-byte : (i : ℕ) → 64 ≤ i → getD t i 0 ≡ getD s i 0
   high-byte i h = sym (same i (inr (omega (arith, to-64 who))))
 
+  form-same : length t ≡ length s → formOf t ≡ formOf s
+  unfolding formOf
+  form-same long = rw (long, high 4 88 (lit≤ tt))
+
   trade-same : tradeOf t ≡ tradeOf s
   unfolding tradeOf
   trade-same = cc (low 4 4 (lit≤ tt), low 4 8 (lit≤ tt), low 4 12 (lit≤ tt), low 4 16 (lit≤ tt))
@@ -86,15 +91,15 @@ module _ (who : Side) (s t : List ℕ) (same : AlikeBut who s t) where
   party-same at kind code limit h = cc (elements-same 4 at code 4 0 (lit≤ tt), number-same 4 (at + 4) limit, high-byte kind h)
 
 -- The facts of the second case are those of the first with the party's code and limit as the second has them.
-pub facts-altered : (who : Side) (s t : List ℕ) → AlikeBut who s t
+pub facts-altered : (who : Side) (s t : List ℕ) → length t ≡ length s → AlikeBut who s t
     → factsOf t ≡ alteredFacts (factsOf s) who (codeIn who t) (limitIn who t)
 unfolding factsOf partyAt
-facts-altered Buy s t same =
+facts-altered Buy s t long same =
     let seller = party-same Buy s t same 56 65 (λ k l. inr (omega arith)) (λ k l. inr (omega arith)) (lit≤ tt) in
-    cc (trade-same Buy s t same, market-same Buy s t same, request-same Buy s t same, settlement-same Buy s t same, high-byte Buy s t same 64 (lit≤ tt))
-facts-altered Sell s t same =
+    cc (form-same Buy s t same long, trade-same Buy s t same, market-same Buy s t same, request-same Buy s t same, settlement-same Buy s t same, high-byte Buy s t same 64 (lit≤ tt))
+facts-altered Sell s t long same =
     let buyer = party-same Sell s t same 48 64 (λ k l. inl (omega arith)) (λ k l. inl (omega arith)) (lit≤ tt) in
-    cc (trade-same Sell s t same, market-same Sell s t same, request-same Sell s t same, settlement-same Sell s t same, high-byte Sell s t same 65 (lit≤ tt))
+    cc (form-same Sell s t same long, trade-same Sell s t same, market-same Sell s t same, request-same Sell s t same, settlement-same Sell s t same, high-byte Sell s t same 65 (lit≤ tt))
 
 -- ---- the answer: the other party's notice shows the code where the outcome is 1 or 2
 shown-four : (o : Outcome) (x y z w : ℕ)
@@ -125,22 +130,26 @@ answer-altered f who code limit untold =
 
 -- Of one party's code and limit the answer tells the other party the code where the trade is repriced or undone, and nothing else
 -- but on which side of the limit the tested price lies.
-pub blind : (who : Side) (s t : List ℕ) → AlikeBut who s t → UntoldBytes who s t → Blind who s t (answerOf (factsOf s)) (answerOf (factsOf t))
+pub blind : (who : Side) (s t : List ℕ) → length t ≡ length s → AlikeBut who s t → UntoldBytes who s t → Blind who s t (answerOf (factsOf s)) (answerOf (factsOf t))
 unfolding answerOf factsOf partyAt
-blind Buy s t same untold =
+blind Buy s t long same untold =
     subst (Blind Buy s t (answerOf (factsOf s)))
-    (sym (ap answerOf (facts-altered Buy s t same) ∙ answer-altered (factsOf s) Buy (codeIn Buy t) (limitIn Buy t) untold))
+    (sym (ap answerOf (facts-altered Buy s t long same) ∙ answer-altered (factsOf s) Buy (codeIn Buy t) (limitIn Buy t) untold))
     (blind-answers Buy s t (rulingOf (factsOf s)) (codeIn Sell s))
-blind Sell s t same untold =
+blind Sell s t long same untold =
     subst (Blind Sell s t (answerOf (factsOf s)))
-    (sym (ap answerOf (facts-altered Sell s t same) ∙ answer-altered (factsOf s) Sell (codeIn Sell t) (limitIn Sell t) untold))
+    (sym (ap answerOf (facts-altered Sell s t long same) ∙ answer-altered (factsOf s) Sell (codeIn Sell t) (limitIn Sell t) untold))
     (blind-answers Sell s t (rulingOf (factsOf s)) (codeIn Buy s))
+
+-- Two accepted cases that are alike at their heads are as long.
+pub alike-long : (who : Side) (s t : List ℕ) → readingOf s .refusal ≡ 0 → readingOf t .refusal ≡ 0 → AlikeBut who s t → length t ≡ length s
+alike-long who s t e e' same = passed-case t (accepts t e') .long ∙ low who s t same 2 0 (lit≤ tt) ∙ sym (passed-case s (accepts s e) .long)
 
 -- The same of two accepted cases and the bytes that are written for them.
 pub blind-cases : (who : Side) (s t : List ℕ) (room room' : ℕ) → readingOf s .refusal ≡ 0 → readingOf t .refusal ≡ 0 → 96 ≤ room → 96 ≤ room'
     → AlikeBut who s t → UntoldBytes who s t → Blind who s t (caseOf s room .1) (caseOf t room' .1)
 blind-cases who s t room room' e e' fits fits' same untold =
-    rw (accepted-ruled s room e fits, accepted-ruled t room' e' fits') (blind who s t same untold)
+    rw (accepted-ruled s room e fits, accepted-ruled t room' e' fits') (blind who s t (alike-long who s t e e' same) same untold)
 
 -- ---- a code is letters and digits, never zeros: whether it shows can be told from the notice
 never-zeros : (code : List ℕ) → codeOk code ≡ true → code ≡ 0 ∷ 0 ∷ 0 ∷ 0 ∷ [] → ⊥

@@ -56,7 +56,7 @@ module _ (f : Facts) (who : Side) (code : List ℕ) (limit : Price) where
 
   same-on : (way : Way) → Same (testedOn f who way) → ruledOn g way ≡ ruledOn f way
   unfolding ruledOn
-  same-on way k = same-from way (theoryOf (f .request .side) (f .market)) k
+  same-on way k = same-from way (theoryOf (f .form) (f .request .side) (f .market)) k
 
   same-by : (way : Way) → Same (testedBy f who way) → ruledBy g way ≡ ruledBy f way
   unfolding ruledBy

@@ -6,6 +6,7 @@ use Rattle.alike.specs.Words.{Moment, Facts, Ruling}
 abbrev pub acceptedAt : Facts → Moment → Facts
 acceptedAt f m =
     record {
+      form = f .form;
       trade = f .trade;
       market = f .market;
       request = f .request;

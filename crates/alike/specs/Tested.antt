@@ -28,7 +28,7 @@ testedFrom f way who (Found s) =
 testedFrom f way who Missing = None
 
 abbrev pub testedOn : Facts → Side → Way → Price
-testedOn f who way = testedFrom f way who (theoryOf (f .request .side) (f .market))
+testedOn f who way = testedFrom f way who (theoryOf (f .form) (f .request .side) (f .market))
 
 -- nor on the catastrophic way where a panel has already decided, nor where no way is open
 abbrev pub testedBy : Facts → Side → Way → Price
@@ -49,6 +49,7 @@ testedIn f who = testedIf f who (wayOf (f .trade .executed) (f .request) (bySide
 abbrev pub alteredFacts : Facts → Side → List ℕ → Price → Facts
 alteredFacts f who code limit =
     record {
+      form = f .form;
       trade = f .trade;
       market = f .market;
       request = f .request;

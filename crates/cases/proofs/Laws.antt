@@ -9,7 +9,8 @@ use borrow.Author.Tests.{le-leb, lt-leb, leb-true, eq-eqb, ne-eqb, eqb-true, eqb
 use Rattle.wire.specs.Tests.{pick}
 use Rattle.wire.proofs.Tests.{both-true, none-fails, first-append}
 use Rattle.forms.specs.Forms.{formLength}
-use Rattle.forms.proofs.Heads.{has-88}
+use Rattle.forms.specs.Heads.{known, sizeIn, kindIn, IsCase}
+use Rattle.forms.proofs.Heads.{has-88, case-length}
 use Rattle.record.specs.Record.{factsOf, recordBytes}
 use Rattle.refusals.specs.Tests.{lengthOk, headOk, zerosOk, listsOk, formTests, factTests, formFaultOf, faultOf}
 use Rattle.cases.specs.Words.{Facts}
@@ -73,6 +74,18 @@ module _ (s : List ℕ) where
   -- every kind has the 88 bytes from which the facts are read
   pub passed-whole : refusalOf s ≡ 0 → 88 ≤ length s
   passed-whole e = has-88 (length s) (formed (passed-form e) .whole)
+
+  -- what is accepted is a case, as long as its head says
+  pub passed-case : refusalOf s ≡ 0 → IsCase s
+  unfolding headOk
+  passed-case e =
+      let h = both-true (known (sizeIn s) (kindIn s)) (eqb (sizeIn s) (length s)) (formed (passed-form e) .head) in
+      record { pair = h .0; long = sym (eqb-true (sizeIn s) (length s) (h .1)) }
+
+  -- and a case passes the tests 1 and 2
+  pub case-passes : IsCase s → (lengthOk s ≡ true) × (headOk s ≡ true)
+  unfolding headOk
+  case-passes c = (case-length s (c .pair) (c .long), simp (c .pair, eq-eqb (sizeIn s) (length s) (sym (c .long))))
 
   pub accepted-form : readingOf s .refusal ≡ 0 → formFaultOf s ≡ 0
   accepted-form e = passed-form (accepts e)

@@ -11,6 +11,9 @@ use Rattle.wire.specs.Numbers.{joined, bytes, elementsFrom, elements, numberAt,
 use Rattle.wire.proofs.Numbers.{joined-bytes}
 use Rattle.wire.proofs.Tests.{both-true, none-fails}
 use Rattle.facts.specs.Numbers.{contracts, priceNumber}
+use Rattle.forms.specs.Heads.{isLength}
+use Rattle.forms.specs.Forms.{formOf}
+use Rattle.forms.proofs.Heads.{has-88}
 use Rattle.record.specs.Record.{tradeOf, marketOf, requestOf, partyAt, settlementOf, factsOf}
 use Rattle.refusals.specs.Tests.{priceOk, quoteOk, headOk, zerosOk, listsOk, codesOk, quotesPriced, pricesOk, countsOk, timesOk, limitsOk, agreementOk, faultOf}
 use Rattle.cases.specs.Cases.{refusalOf, Formed}
@@ -95,6 +98,10 @@ module _ (s : List ℕ) (bid offer : Quote) where
   high-byte : (i : ℕ) → 36 ≤ i → getD (filled s bid offer) i 0 ≡ getD s i 0
   high-byte i h = filled-outside i (inr h)
 
+  form-kept : formOf (filled s bid offer) ≡ formOf s
+  unfolding formOf
+  form-kept = rw (filled-length, high 4 88 (lit≤ tt))
+
   trade-kept : tradeOf (filled s bid offer) ≡ tradeOf s
   unfolding tradeOf
   trade-kept = cc (low 4 4 (lit≤ tt), low 4 8 (lit≤ tt), low 4 12 (lit≤ tt), low 4 16 (lit≤ tt))
@@ -114,12 +121,12 @@ module _ (s : List ℕ) (bid offer : Quote) where
   settlement-kept = cc (high-byte 67 (lit≤ tt), high 4 68 (lit≤ tt), high 4 76 (lit≤ tt), high 4 80 (lit≤ tt))
 
   -- it has the form of a case where it had it before
-  form-kept : Formed s → Formed (filled s bid offer)
+  formed-kept : Formed s → Formed (filled s bid offer)
   unfolding headOk zerosOk listsOk
-  form-kept f =
+  formed-kept f =
       record {
-        whole = filled-length ∙ f .whole;
-        head = rw (low 2 0 (lit≤ tt), low 2 2 (lit≤ tt)) (f .head);
+        whole = ap isLength filled-length ∙ f .whole;
+        head = rw (low 2 0 (lit≤ tt), low 2 2 (lit≤ tt), filled-length) (f .head);
         zeros = rw (high 4 36 (lit≤ tt), high 4 84 (lit≤ tt)) (f .zeros);
         lists =
             rw (
@@ -176,7 +183,7 @@ module _ (s : List ℕ) (bid offer : Quote) where
     pub facts-filled : sideOk bid ≡ true → sideOk offer ≡ true → factsOf (filled s bid offer) ≡ quoted (factsOf s) bid offer
     unfolding factsOf
     facts-filled x y =
-        rw (trade-kept, market-filled x y, request-kept, party-kept 48 64 (lit≤ tt) (lit≤ tt), party-kept 56 65 (lit≤ tt) (lit≤ tt), settlement-kept)
+        rw (form-kept, trade-kept, market-filled x y, request-kept, party-kept 48 64 (lit≤ tt) (lit≤ tt), party-kept 56 65 (lit≤ tt) (lit≤ tt), settlement-kept)
 
     -- filled once more with the same it stays as it is
     pub filled-again : filled (filled s bid offer) bid offer ≡ filled s bid offer
@@ -198,13 +205,13 @@ quoted-passes f bid offer e x y =
     let c3 = both-true (leb 1 (f .trade .contracts .0)) (leb (f .trade .contracts .0) 1000000) (c2 .0) in
     let bx = both-true (priceOk (bid .price)) _ x in
     let oy = both-true (priceOk (offer .price)) _ y in
-    simp (t4 .0, o .price, bx .0, oy .0, o .official, o .highest, o .lowest, o .agreed, c3 .0, c3 .1, bx .1, oy .1, t7 .0, t8 .0, t9 .0)
+    simp (t4 .0, o .price, bx .0, oy .0, o .official, o .highest, o .lowest, o .agreed, o .differential, c3 .0, c3 .1, bx .1, oy .1, t7 .0, t8 .0, t9 .0)
 
 -- An accepted case, filled with quotes that pass: accepted, and the facts are the old ones with these quotes.
 pub filled-accepted : (s : List ℕ) (bid offer : Quote) → refusalOf s ≡ 0 → sideOk bid ≡ true → sideOk offer ≡ true
     → (refusalOf (filled s bid offer) ≡ 0) × (factsOf (filled s bid offer) ≡ quoted (factsOf s) bid offer)
 filled-accepted s bid offer good x y =
     let form = formed s (passed-form s good) in
-    let facts = facts-filled s bid offer (omega (arith, form .whole)) x y in
+    let facts = facts-filled s bid offer (omega (arith, has-88 (length s) (form .whole))) x y in
     let passed = quoted-passes (factsOf s) bid offer (passed-facts s good) x y in
-    (sym (facts-decide (filled s bid offer) 0 (quoted (factsOf s) bid offer) (well-formed (filled s bid offer) (form-kept s bid offer form)) (sym facts) (sym passed)), facts)
+    (sym (facts-decide (filled s bid offer) 0 (quoted (factsOf s) bid offer) (well-formed (filled s bid offer) (formed-kept s bid offer form)) (sym facts) (sym passed)), facts)
