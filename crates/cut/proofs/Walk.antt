@@ -29,11 +29,11 @@ same-test a b c d f g = by-test (eqb c d) refl where
 
 -- ---- where cases begin
 module _ (s : List ℕ) where
-  start-first : startOf s 0 ≡ 0
+  pub start-first : startOf s 0 ≡ 0
   unfolding startOf
   start-first = refl
 
-  start-next : (i : ℕ) → i < casesIn s → startOf s (suc i) ≡ startOf s i + length (caseAt s i)
+  pub start-next : (i : ℕ) → i < casesIn s → startOf s (suc i) ≡ startOf s i + length (caseAt s i)
   unfolding startOf caseAt
   start-next i l =
       ap (λ (cs : List (List ℕ)). length (together cs)) (take-suc (cut s .cases) i [] l)
@@ -44,7 +44,7 @@ module _ (s : List ℕ) where
   unfolding startOf
   start-past i k e l = rw (e, take-all k (cut s .cases) (omega arith), take-length)
 
-  start-end : whole s ≡ true → startOf s (casesIn s) ≡ length s
+  pub start-end : whole s ≡ true → startOf s (casesIn s) ≡ length s
   unfolding startOf
   start-end is = rw take-length (ap length (whole-joins s is))
 
@@ -68,11 +68,11 @@ module _ (s : List ℕ) (i from : ℕ) (a : At s i from) where
     ahead : drop i (cut s .cases) ≡ take (caseLength (drop from s)) (drop from s) ∷ cut (drop (from + caseLength (drop from s)) s) .cases
     ahead = ap (λ (p : Pieces). p .cases) (sym (a .here) ∙ cut-more (drop from s) h) ∙ rw drop-drop refl
 
-    more : i < casesIn s
-    more = omega (arith, ap length ahead, length-drop i (cut s .cases))
+    pub at-comes : i < casesIn s
+    at-comes = omega (arith, ap length ahead, length-drop i (cut s .cases))
 
     split : getD (cut s .cases) i [] ∷ drop (suc i) (cut s .cases) ≡ take (caseLength (drop from s)) (drop from s) ∷ cut (drop (from + caseLength (drop from s)) s) .cases
-    split = sym (drop-cons (cut s .cases) i [] more) ∙ ahead
+    split = sym (drop-cons (cut s .cases) i [] at-comes) ∙ ahead
 
     -- it is case i
     pub at-case : take (caseLength (drop from s)) (drop from s) ≡ caseAt s i
@@ -89,10 +89,10 @@ module _ (s : List ℕ) (i from : ℕ) (a : At s i from) where
         let tails : cut (drop (from + caseLength (drop from s)) s) .cases ≡ drop (suc i) (cut s .cases) = cc in
         let ends : cut (drop (from + caseLength (drop from s)) s) .left ≡ cut s .left = rw (← drop-drop) (ap (λ (p : Pieces). p .left) (sym (cut-more (drop from s) h) ∙ a .here)) in
         record {
-          start = rw add-one (omega (arith, a .start, start-next s i more, case-long));
+          start = rw add-one (omega (arith, a .start, start-next s i at-comes, case-long));
           inside = at-fits;
           few = omega (arith, a .few, f .size, f .low);
-          within = omega (arith, more);
+          within = omega (arith, at-comes);
           here = rw add-one (pieces (cut (drop (from + caseLength (drop from s)) s)) (drop (suc i) (cut s .cases)) (cut s .left) tails ends);
         }
 
