@@ -1,20 +1,27 @@
--- What `fillSheetOf` is, by the tests that lead there; the filled sheet is as long as the sheet, and its case k is case k filled.
-use Prim.Native.Nat.{ℕ, zero, suc, _+_, _-_, _*_, _%_, _≤_, _<_}
+-- What `fillSheetOf` is, by the tests that lead there; the filled sheet is as long as the sheet, is cut into as many cases, and its case k is case k
+-- filled.
+use Prim.Native.Nat.{ℕ, zero, suc, _+_, _≤_, _<_}
 use mathlib.Core.Path.{_≡_, refl, sym, ap, _∙_}
 use mathlib.Core.Bool.{true, false}
-use mathlib.Core.List.{List}
-use native.Mathlib.Nat.{suc-mul}
+use mathlib.Core.List.{List, [], _∷_}
 use native.Mathlib.Omega.{arith}
-use lib.ListN.{length, length-append}
-use lib.Seq.{take-at, drop-at}
-use lib.Dec.{eqb, leb}
+use lib.ListN.{length, getD, set, length-append}
+use lib.Seq.{getD-set-other}
+use lib.Dec.{eqb, lit≤}
 use borrow.Author.Tests.{eq-eqb, ne-eqb, eqb-true}
 use Rattle.wire.specs.Laid.{row}
-use Rattle.wire.proofs.Tests.{both-true, either, none-fails}
-use Rattle.wire.proofs.Rows.{row-split}
-use Rattle.sheet.specs.Sheet.{caseAt, casesIn, wholeCases}
-use Rattle.sheet.proofs.Whole.{case-whole}
+use Rattle.wire.specs.Numbers.{bytes, storedFrom, stored}
+use Rattle.wire.proofs.Tests.{either, none-fails}
+use Rattle.cut.specs.Cut.{IsCase}
+use Rattle.cut.proofs.Laws.{case-is, row-whole, row-many, row-case}
+use Rattle.cut.proofs.Walk.{start-first, start-next, start-end}
+use Rattle.cut.proofs.Alike.{kept-case}
+use Rattle.sheet.specs.Sheet.{whole, caseAt, startOf, casesIn, wholeCases}
+use Rattle.sheet.proofs.Turns.{whole-cut}
 use Rattle.quotes.specs.Quotes.{quotesRefusalOf}
+use Rattle.facts.specs.Numbers.{priceNumber}
+use Rattle.filling.specs.Words.{Quote}
+use Rattle.filling.specs.Filling.{filled, foundFor, fillRefusalOf, fillingOf}
 use Rattle.filling.proofs.Answers.{as-long}
 use Rattle.fillings.specs.Fillings.{fillSheetRefusalOf, filledCase, fillSheetOf}
 
@@ -51,39 +58,63 @@ module _ (q s : List ℕ) where
   pub fills : fillSheetRefusalOf q s ≡ 0 → Ends 0 (row (filledCase q s) (casesIn s))
   fills e = ends (0, row (filledCase q s) (casesIn s)) (filled-whole e)
 
-  -- ---- lengths: a filled case has a case's 88 bytes
-  pub case-long : (k : ℕ) → k < casesIn s → length (filledCase q s k) ≡ 88
-  case-long k within = as-long q (caseAt s k) ∙ case-whole s k within
-
-  pub row-long : (n : ℕ) → n ≤ casesIn s → length (row (filledCase q s) n) ≡ n * 88
+  -- ---- lengths: a filled case is as long as it was, so each begins where it began
+  pub row-long : (n : ℕ) → n ≤ casesIn s → length (row (filledCase q s) n) ≡ startOf s n
   unfolding row
-  row-long zero within = refl
+  row-long zero within = sym (start-first s)
   row-long (suc n) within =
-      rw suc-mul (omega (arith, length-append (row (filledCase q s) n) (filledCase q s n), row-long n (omega arith), case-long n (omega arith)))
+      omega (arith, length-append (row (filledCase q s) n) (filledCase q s n), row-long n (omega arith), as-long q (caseAt s n), start-next s n (omega arith))
 
-  pub all-long : wholeCases s ≡ true → length (row (filledCase q s) (casesIn s)) ≡ length s
-  unfolding wholeCases
-  all-long h =
-      let even = eqb-true (length s % 88) 0 (both-true (eqb (length s % 88) 0) (leb (length s) 52800) h .0) in
-      omega (arith, row-long (casesIn s) (omega arith))
+  pub all-long : whole s ≡ true → length (row (filledCase q s) (casesIn s)) ≡ length s
+  all-long h = row-long (casesIn s) (omega arith) ∙ start-end s h
 
   pub sheet-as-long : length (fillSheetOf q s .1) ≡ length s
   unfolding fillSheetOf
   sheet-as-long =
       either (λ (p : ℕ × List ℕ). length (p .1) ≡ length s) (eqb (fillSheetRefusalOf q s) 0) (0, row (filledCase q s) (casesIn s)) (fillSheetRefusalOf q s, s)
-      (λ t. all-long (whole-first (eqb-true (fillSheetRefusalOf q s) 0 t)))
+      (λ t. all-long (whole-cut s (whole-first (eqb-true (fillSheetRefusalOf q s) 0 t))))
       (λ _. refl)
 
--- ---- an entry of a row of entries of 88 bytes
-at-place : (f : ℕ → List ℕ) (k m : ℕ) → length (row f k) ≡ k * 88 → length (f k) ≡ 88 → caseAt (row f (suc k + m)) k ≡ f k
-unfolding caseAt
-at-place f k m before long = rw (row-split f k m, drop-at (row f k) _ (k * 88) before, take-at (f k) _ 88 long)
+-- ---- a filled case is a case still: its head stays
+front-kept : (bs o : List ℕ) (i k j : ℕ) → j < i → getD (storedFrom o i k bs) j 0 ≡ getD o j 0
+front-kept [] o i k j h = refl
+front-kept (b ∷ bs) o i k j h = front-kept bs (set o (i + k) b) i (suc k) j h ∙ getD-set-other o (i + k) j b 0 (λ e. omega arith)
 
--- a sheet that is not refused has each case filled, in its place
-pub case-filled : (q s : List ℕ) (k : ℕ) → fillSheetRefusalOf q s ≡ 0 → k < casesIn s → caseAt (fillSheetOf q s .1) k ≡ filledCase q s k
-case-filled q s k good within =
-    let m = casesIn s - suc k in
-    let e : casesIn s ≡ suc k + m = omega arith in
-    ap (λ (p : ℕ × List ℕ). caseAt (p .1) k) (filled-whole q s good)
-    ∙ ap (λ (n : ℕ). caseAt (row (filledCase q s) n) k) e
-    ∙ at-place (filledCase q s) k m (row-long q s k (omega arith)) (case-long q s k within)
+module _ (j : ℕ) (h : j < 4) where
+  kept : (o bs : List ℕ) (i : ℕ) → 20 ≤ i → getD (stored o i bs) j 0 ≡ getD o j 0
+  kept o bs i l = front-kept bs o i 0 j (omega arith)
+
+  filled-head : (s : List ℕ) (bid offer : Quote) → getD (filled s bid offer) j 0 ≡ getD s j 0
+  unfolding filled
+  filled-head s bid offer =
+      let s1 = stored s 20 (bytes 4 (priceNumber (bid .price))) in
+      let s2 = stored s1 24 (bytes 4 (priceNumber (offer .price))) in
+      let s3 = stored s2 28 (bytes 4 (bid .size .0)) in
+      kept s3 (bytes 4 (offer .size .0)) 32 (lit≤ tt)
+      ∙ kept s2 (bytes 4 (bid .size .0)) 28 (lit≤ tt)
+      ∙ kept s1 (bytes 4 (priceNumber (offer .price))) 24 (lit≤ tt)
+      ∙ kept s (bytes 4 (priceNumber (bid .price))) 20 (lit≤ tt)
+
+  head-kept : (q s : List ℕ) → getD (fillingOf q s .1) j 0 ≡ getD s j 0
+  unfolding fillingOf
+  head-kept q s =
+      either (λ (p : ℕ × List ℕ). getD (p .1) j 0 ≡ getD s j 0) (eqb (fillRefusalOf q s) 0) _ _
+      (λ _. filled-head s (foundFor q s .bid) (foundFor q s .offer))
+      (λ _. refl)
+
+pub filled-is : (q s : List ℕ) (k : ℕ) → k < casesIn s → IsCase (filledCase q s k)
+filled-is q s k within = kept-case (caseAt s k) (filledCase q s k) (case-is s k within) (as-long q (caseAt s k)) (λ j h. head-kept j h q (caseAt s k))
+
+-- a sheet that is not refused is filled to a whole one of as many cases, each case filled, in its place
+module _ (q s : List ℕ) (good : fillSheetRefusalOf q s ≡ 0) where
+  after : fillSheetOf q s .1 ≡ row (filledCase q s) (casesIn s)
+  after = ap (λ (p : ℕ × List ℕ). p .1) (filled-whole q s good)
+
+  pub whole-filled : whole (fillSheetOf q s .1) ≡ true
+  whole-filled = ap whole after ∙ row-whole (filledCase q s) (casesIn s) (filled-is q s)
+
+  pub many-filled : casesIn (fillSheetOf q s .1) ≡ casesIn s
+  many-filled = ap (λ (t : List ℕ). casesIn t) after ∙ row-many (filledCase q s) (casesIn s) (filled-is q s)
+
+  pub case-filled : (k : ℕ) → k < casesIn s → caseAt (fillSheetOf q s .1) k ≡ filledCase q s k
+  case-filled k within = ap (λ (t : List ℕ). caseAt t k) after ∙ row-case (filledCase q s) (casesIn s) (filled-is q s) k within

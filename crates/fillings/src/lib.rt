@@ -1,5 +1,5 @@
 // A sheet filled from the exchanges' quotes: each case with the best bid and offer at its own execution time, as by itself, and one that is refused
-// stays as it was. Refused whole with 10 (the sheet is no whole number of cases, or more than 600 of them), then with 20 to 22 (the quotes), and
+// stays as it was. Refused whole with 10 (the sheet is no row of whole cases, or more than 52,800 bytes), then with 20 to 22 (the quotes), and
 // then nothing is written.
 ghost use mathlib.Core.Path.{_≡_};
 ghost use Rattle.fillings.specs.Fillings.{fillSheetRefusalOf, fillSheetOf};
@@ -8,7 +8,8 @@ ghost use Rattle.fillings.specs.Fillings.{fillSheetRefusalOf, fillSheetO
 pub fn check_filling(quotes: &[u8], sheet: &[u8]) -> u8
     ensures { λ r. ⌜ r ≡ fillSheetRefusalOf (now (quotes .entry)) (now (sheet .entry)) ⌝ }
 {
-    if !sheet::whole_cases(sheet) {
+    let c = sheet::whole_cases(sheet);
+    if !c.whole {
         return 10;
     }
     quotes::check_quotes(quotes, 0)
@@ -22,12 +23,12 @@ pub fn fill_sheet(quotes: &[u8], sheet: &mut [u8]) -> u8
     if number != 0 {
         return number;
     }
-    let n = sheet.len() / 88;
-    let mut i: usize = 0;
-    while i < n {
-        let from = i * 88;
-        filling::fill_case(quotes, &mut sheet[from..from + 88]);
-        i += 1;
+    let mut from: usize = 0;
+    let mut step = cut::length_at(sheet, 0);
+    while step > 0 {
+        filling::fill_case(quotes, &mut sheet[from..from + step]);
+        from += step;
+        step = cut::length_at(sheet, from);
     }
     0
 }

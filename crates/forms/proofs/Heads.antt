@@ -74,6 +74,9 @@ known-length size kind h = ⊎-elim (λ e. simp (both-true (eqb size 88) (eqb ki
   second : eqb size 92 ≡ true → (eqb size 88 || (eqb size 92 || false)) ≡ true
   second e = simp (eqb-true size 92 e)
 
+pub known-size : (size kind : ℕ) → known size kind ≡ true → 88 ≤ size
+known-size size kind h = has-88 size (known-length size kind h)
+
 module _ (s : List ℕ) (pair : known (sizeIn s) (kindIn s) ≡ true) (long : length s ≡ sizeIn s) where
   -- A case has one of the lengths, and its head says length and kind of its form.
   pub case-length : isLength (length s) ≡ true

@@ -11,8 +11,10 @@ use Rattle.wire.specs.Laid.{row}
 use Rattle.wire.proofs.Tests.{either}
 use Rattle.wire.proofs.Rows.{row-same, row-split}
 use Rattle.cases.specs.Cases.{readingOf}
-use Rattle.sheet.specs.Sheet.{caseAt, casesIn, ruledIn, wholeCases}
-use Rattle.sheet.proofs.Turns.{lent, whole-length}
+use Rattle.cut.specs.Cut.{caseLength}
+use Rattle.cut.proofs.Walk.{At, at-of, at-lent}
+use Rattle.sheet.specs.Sheet.{caseAt, casesIn, startOf, ruledIn, wholeCases}
+use Rattle.sheet.proofs.Turns.{whole-few}
 use Rattle.lines.specs.Lines.{header, ruledLine, refusedLine, endLine, sheetLine}
 use Rattle.lines.proofs.Lengths.{header-most, end-most, sheet-most}
 use Rattle.report.specs.Words.{Reading}
@@ -31,10 +33,14 @@ module _ (s : List ℕ) (n : ℕ) where
   no-piece : (k : ℕ) → n < k → ruledPiece s n (suc k) ≡ []
   no-piece k h = simp (le-ltb k n (omega arith), ne-eqb k n (omega arith))
 
--- the same for a piece after the header, under the case's place: the part of the sheet that is lent is case i
-pub at-line : (s : List ℕ) (k i : ℕ) → k ≡ suc i → i < casesIn s
-    → caseLine i (readingOf (take (i * 88 + 88 - i * 88) (drop (i * 88) s))) ≡ ruledPiece s (casesIn s) k
-at-line s k i e l = rw (e, lent s i) (sym (line-piece s (casesIn s) i l))
+-- the same for a piece after the header: the part of the sheet that is lent, from the place of case i on, is case i
+pub at-place : (s : List ℕ) (n i from : ℕ) → n ≡ casesIn s → i < n → from ≡ startOf s i → At s i from
+at-place s n i from many l place = rw place (at-of s i (omega arith))
+
+pub at-line : (s : List ℕ) (n k i from step : ℕ) → k ≡ suc i → n ≡ casesIn s → i < n → from ≡ startOf s i → step ≡ caseLength (drop from s)
+    → caseLine i (readingOf (take (from + step - from) (drop from s))) ≡ ruledPiece s n k
+at-line s n k i from step e many l place long =
+    ap (λ (c : List ℕ). caseLine i (readingOf c)) (at-lent s i from step (at-place s n i from many l place) (omega arith) long) ∙ rw e (sym (line-piece s n i l))
 
 pub at-end : (s : List ℕ) (n k i ruled : ℕ) → k ≡ suc i → i ≡ n → ruled ≡ ruledIn s n → endLine ruled (n - ruled) ≡ ruledPiece s n k
 at-end s n k i ruled e l r = rw (e, l, r) (sym (end-piece s n))
@@ -132,7 +138,7 @@ module _ (s : List ℕ) where
   pub pieces-most : piecesIn s ≤ mostPieces
   pieces-most =
       by-whole s (piecesIn s ≤ mostPieces)
-      (λ h. omega (arith, pieces-whole s h, whole-length s h))
+      (λ h. omega (arith, pieces-whole s h, whole-few s h))
       (λ h. omega (arith, pieces-refused s h))
 
   -- no piece is longer than 96 bytes

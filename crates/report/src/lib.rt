@@ -1,4 +1,4 @@
-// The report of a sheet: what the printer writes, as bytes in a lent buffer. A sheet of whole cases, 600 at most, has the header, a line for
+// The report of a sheet: what the printer writes, as bytes in a lent buffer. A row of whole cases, 600 at most, has the header, a line for
 // each case and END; any other has the one line that refuses it, with 10. Nothing is asked: the buffer holds the longest report, or, where
 // the report is taken piece by piece, the longest line.
 ghost use mathlib.Core.Path.{_≡_};
@@ -35,18 +35,19 @@ fn put_case(case: &[u8], index: u32, out: &mut [u8]) -> Printed
 }
 
 // The lines of the cases, one after the other.
-fn put_cases(sheet: &[u8], out: &mut [u8]) -> Printed
-    requires { ⌜ (length (now sheet) ≤ 52800) × (casesIn (now sheet) * 96 ≤ length (now out)) ⌝ }
-    ensures { λ r. ⌜ (r .bytes ≡ length (row (lineOf (now (sheet .entry))) (casesIn (now (sheet .entry))))) × (r .ruled ≡ ruledIn (now (sheet .entry)) (casesIn (now (sheet .entry)))) × (now (out .exit) ≡ laid (row (lineOf (now (sheet .entry))) (casesIn (now (sheet .entry)))) (now (out .entry))) ⌝ }
-    ensures { λ r. ⌜ (r .bytes ≤ casesIn (now (sheet .entry)) * 96) × (r .ruled ≤ casesIn (now (sheet .entry))) ⌝ }
+fn put_cases(sheet: &[u8], n: usize, out: &mut [u8]) -> Printed
+    requires { ⌜ (n ≡ casesIn (now sheet)) × (n ≤ 600) × (n * 96 ≤ length (now out)) ⌝ }
+    ensures { λ r. ⌜ (r .bytes ≡ length (row (lineOf (now (sheet .entry))) n)) × (r .ruled ≡ ruledIn (now (sheet .entry)) n) × (now (out .exit) ≡ laid (row (lineOf (now (sheet .entry))) n) (now (out .entry))) ⌝ }
+    ensures { λ r. ⌜ (r .bytes ≤ n * 96) × (r .ruled ≤ n) ⌝ }
 {
-    let n = sheet.len() / 88;
     let mut i: usize = 0;
+    let mut from: usize = 0;
     let mut at: usize = 0;
     let mut ruled: usize = 0;
     while i < n {
-        let from = i * 88;
-        let p = put_case(&sheet[from..from + 88], i as u32, &mut out[at..]);
+        let step = cut::length_at(sheet, from);
+        let p = put_case(&sheet[from..from + step], i as u32, &mut out[at..]);
+        from += step;
         at += p.bytes;
         ruled += p.ruled;
         i += 1;
@@ -55,14 +56,13 @@ fn put_cases(sheet: &[u8], out: &mut [u8]) -> Printed
 }
 
 // The header, the lines, END.
-fn put_whole(sheet: &[u8], out: &mut [u8]) -> usize
-    requires { ⌜ (length (now sheet) ≤ 52800) × (65536 ≤ length (now out)) ⌝ }
-    ensures { λ r. ⌜ (r ≡ length (ruledText (now (sheet .entry)) (casesIn (now (sheet .entry))))) × (now (out .exit) ≡ laid (ruledText (now (sheet .entry)) (casesIn (now (sheet .entry)))) (now (out .entry))) × (r ≤ 65536) ⌝ }
+fn put_whole(sheet: &[u8], n: usize, out: &mut [u8]) -> usize
+    requires { ⌜ (n ≡ casesIn (now sheet)) × (n ≤ 600) × (65536 ≤ length (now out)) ⌝ }
+    ensures { λ r. ⌜ (r ≡ length (ruledText (now (sheet .entry)) n)) × (now (out .exit) ≡ laid (ruledText (now (sheet .entry)) n) (now (out .entry))) × (r ≤ 65536) ⌝ }
 {
     let start = lines::put_header(out);
-    let p = put_cases(sheet, &mut out[start..]);
+    let p = put_cases(sheet, n, &mut out[start..]);
     let end = start + p.bytes;
-    let n = sheet.len() / 88;
     end + lines::put_end(&mut out[end..], p.ruled as u32, (n - p.ruled) as u32)
 }
 
@@ -71,8 +71,9 @@ pub fn print_sheet(sheet: &[u8], out: &mut [u8; 65536]) -> usize
     ensures { λ r. ⌜ (r ≡ length (textOf (now (sheet .entry)))) × (now (out .exit) ≡ laid (textOf (now (sheet .entry))) (now (out .entry))) ⌝ }
     ensures { λ r. ⌜ (r ≤ length (now (out .exit))) × (r ≡ length (take r (now (out .exit)))) ⌝ }
 {
-    if sheet::whole_cases(sheet) {
-        return put_whole(sheet, out);
+    let c = sheet::whole_cases(sheet);
+    if c.whole {
+        return put_whole(sheet, c.cases, out);
     }
     lines::put_sheet(out, 10)
 }
@@ -87,37 +88,39 @@ fn ruled_one(case: &[u8]) -> usize
 }
 
 // How many cases are ruled.
-fn count_ruled(sheet: &[u8]) -> usize
-    ensures { λ r. ⌜ (r ≡ ruledIn (now (sheet .entry)) (casesIn (now (sheet .entry)))) × (r ≤ casesIn (now (sheet .entry))) ⌝ }
+fn count_ruled(sheet: &[u8], n: usize) -> usize
+    requires { ⌜ n ≡ casesIn (now sheet) ⌝ }
+    ensures { λ r. ⌜ (r ≡ ruledIn (now (sheet .entry)) n) × (r ≤ n) ⌝ }
 {
-    let n = sheet.len() / 88;
     let mut i: usize = 0;
+    let mut at: usize = 0;
     let mut ruled: usize = 0;
     while i < n {
-        let from = i * 88;
-        ruled += ruled_one(&sheet[from..from + 88]);
+        let step = cut::length_at(sheet, at);
+        ruled += ruled_one(&sheet[at..at + step]);
+        at += step;
         i += 1;
     }
     ruled
 }
 
-// A piece of a sheet of whole cases: the header, a case's line, END, or nothing.
-fn put_piece(sheet: &[u8], k: usize, out: &mut [u8]) -> usize
-    requires { ⌜ (length (now sheet) ≤ 52800) × (96 ≤ length (now out)) ⌝ }
-    ensures { λ r. ⌜ (r ≡ length (ruledPiece (now (sheet .entry)) (casesIn (now (sheet .entry))) k)) × (now (out .exit) ≡ laid (ruledPiece (now (sheet .entry)) (casesIn (now (sheet .entry))) k) (now (out .entry))) ⌝ }
+// A piece of a sheet of whole cases: the header, a case's line, END, or nothing. A case is found by its place, walking from the first.
+fn put_piece(sheet: &[u8], n: usize, k: usize, out: &mut [u8]) -> usize
+    requires { ⌜ (n ≡ casesIn (now sheet)) × (n ≤ 600) × (96 ≤ length (now out)) ⌝ }
+    ensures { λ r. ⌜ (r ≡ length (ruledPiece (now (sheet .entry)) n k)) × (now (out .exit) ≡ laid (ruledPiece (now (sheet .entry)) n k) (now (out .entry))) ⌝ }
 {
     if k == 0 {
         return lines::put_header(out);
     }
     let i = k - 1;
-    let n = sheet.len() / 88;
     if i < n {
-        let from = i * 88;
-        let p = put_case(&sheet[from..from + 88], i as u32, out);
+        let from = cut::start_of(sheet, i);
+        let step = cut::length_at(sheet, from);
+        let p = put_case(&sheet[from..from + step], i as u32, out);
         return p.bytes;
     }
     if i == n {
-        let ruled = count_ruled(sheet);
+        let ruled = count_ruled(sheet, n);
         return lines::put_end(out, ruled as u32, (n - ruled) as u32);
     }
     0
@@ -128,8 +131,9 @@ pub fn print_piece(sheet: &[u8], k: usize, out: &mut [u8; 96]) -> usize
     ensures { λ r. ⌜ (r ≡ length (pieceOf (now (sheet .entry)) k)) × (now (out .exit) ≡ laid (pieceOf (now (sheet .entry)) k) (now (out .entry))) ⌝ }
     ensures { λ r. ⌜ (r ≤ length (now (out .exit))) × (r ≡ length (take r (now (out .exit)))) ⌝ }
 {
-    if sheet::whole_cases(sheet) {
-        return put_piece(sheet, k, out);
+    let c = sheet::whole_cases(sheet);
+    if c.whole {
+        return put_piece(sheet, c.cases, k, out);
     }
     if k == 0 {
         return lines::put_sheet(out, 10);

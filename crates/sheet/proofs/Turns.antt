@@ -15,6 +15,9 @@ use Rattle.wire.specs.Tests.{pick}
 use Rattle.wire.proofs.Tests.{both-true}
 use Rattle.wire.proofs.Rows.{Ran, row-start, row-turn}
 use Rattle.cases.specs.Cases.{readingOf}
+use Rattle.cut.specs.Cut.{caseLength, whole}
+use Rattle.cut.proofs.Cut.{cases-few}
+use Rattle.cut.proofs.Walk.{At, at-start, at-lent, at-step}
 use Rattle.sheet.specs.Words.{Reading, SheetAnswer}
 use Rattle.sheet.specs.Sheet.{caseAt, casesIn, entryBytes, ruledOne, ruledIn, wholeCases, sheetRefusalOf, refusedWhole, ruledWhole, sheetOf}
 use Rattle.sheet.proofs.Entries.{entry-most, one-most}
@@ -38,54 +41,61 @@ module _ (s : List ℕ) (room : ℕ) where
     unfolding sheetOf sheetRefusalOf
     sheet-ruled l = simp (whole, le-leb (casesIn s * 96) room l)
 
--- a sheet of whole cases is 600 of them at most
+-- a sheet that passes the test 10 is whole, has 52,800 bytes at most, and so 600 cases
+pub whole-cut : (s : List ℕ) → wholeCases s ≡ true → whole s ≡ true
+unfolding wholeCases
+whole-cut s h = both-true (whole s) (leb (length s) 52800) h .0
+
 pub whole-length : (s : List ℕ) → wholeCases s ≡ true → length s ≤ 52800
 unfolding wholeCases
-whole-length s h = leb-true (length s) 52800 (both-true (eqb (length s % 88) 0) (leb (length s) 52800) h .1)
+whole-length s h = leb-true (length s) 52800 (both-true (whole s) (leb (length s) 52800) h .1)
+
+pub whole-few : (s : List ℕ) → wholeCases s ≡ true → casesIn s ≤ 600
+whole-few s h = omega (arith, cases-few s, whole-length s h)
 
 -- ---- the loop over the cases: what holds at its head, with i cases done, where a case adds f k of its reading, of m bytes at most
 module _ (f : ℕ → Reading → List ℕ) (m : ℕ) where
   abbrev pub added : List ℕ → ℕ → List ℕ
   added s k = f k (readingOf (caseAt s k))
 
-  pub record Turn (s out₀ out : List ℕ) (i at ruled : ℕ) : Type 0 where
-    pub within : i ≤ casesIn s
+  pub record Turn (s out₀ out : List ℕ) (i from at ruled : ℕ) : Type 0 where
+    pub walked : At s i from
     pub ran : Ran (row (added s) i) out₀ at out
     pub counted : ruled ≡ ruledIn s i
     pub most : at ≤ i * m
     pub few : ruled ≤ i
     pub same : length out ≡ length out₀
 
-  pub first : (s out : List ℕ) → Turn s out out 0 0 0
+  pub first : (s out : List ℕ) → Turn s out out 0 0 0 0
   unfolding ruledIn
   first s out =
-      record { within = omega arith; ran = row-start (added s) out; counted = refl; most = zero-le; few = omega arith; same = refl }
-
--- the part of the sheet that is lent for a turn is case i
-pub lent : (s : List ℕ) (i : ℕ) → take (i * 88 + 88 - i * 88) (drop (i * 88) s) ≡ caseAt s i
-unfolding caseAt
-lent s i = rw (add-sub-cancel-left (i * 88) 88)
+      record { walked = at-start s; ran = row-start (added s) out; counted = refl; most = zero-le; few = omega arith; same = refl }
 
 -- a turn: what case i adds goes into the part of the buffer from its place on
-pub next : (f : ℕ → Reading → List ℕ) (m : ℕ) → ((k : ℕ) (r : Reading) → length (f k r) ≤ m)
-    → (s out₀ out ys : List ℕ) (i at ruled bytes one : ℕ) → Turn f m s out₀ out i at ruled → i < casesIn s
-    → (bytes ≡ length (f i (readingOf (take (i * 88 + 88 - i * 88) (drop (i * 88) s))))) × (one ≡ ruledOne (readingOf (take (i * 88 + 88 - i * 88) (drop (i * 88) s)))) × (ys ≡ laid (f i (readingOf (take (i * 88 + 88 - i * 88) (drop (i * 88) s)))) (midOf at (length out - at) out))
-    → length (putMid at (length out - at) out ys) ≡ length out
-    → Turn f m s out₀ (putMid at (length out - at) out ys) (i + 1) (at + bytes) (ruled + one)
-unfolding ruledIn
-next f m short s out₀ out ys i at ruled bytes one t more e same =
-    let r = readingOf (caseAt s i) in
-    let b : bytes ≡ length (f i r) = rw (lent s i) at (e .0) in
-    let o : one ≡ ruledOne r = rw (lent s i) at (e .1) in
-    let y : ys ≡ laid (f i r) (midOf at (length out - at) out) = rw (lent s i) at (e .2) in
-    record {
-      within = omega arith;
-      ran = row-turn (added f m s) out₀ out ys i at bytes (t .ran) b y;
-      counted = rw add-one (cc);
-      most = rw (add-one, suc-mul) (omega (arith, short i r));
-      few = omega (arith, one-most i r);
-      same = same ∙ t .same;
-    }
+module _ (f : ℕ → Reading → List ℕ) (m : ℕ) (short : (k : ℕ) (r : Reading) → length (f k r) ≤ m)
+    (s out₀ out ys : List ℕ) (i from at ruled step bytes one : ℕ) (t : Turn f m s out₀ out i from at ruled) (more : i < casesIn s)
+    (length-is : step ≡ caseLength (drop from s)) where
+  -- the part of the sheet that is lent for the turn is case i
+  lent : take (from + step - from) (drop from s) ≡ caseAt s i
+  lent = at-lent s i from step (t .walked) more length-is
+
+  pub next : (bytes ≡ length (f i (readingOf (take (from + step - from) (drop from s))))) × (one ≡ ruledOne (readingOf (take (from + step - from) (drop from s)))) × (ys ≡ laid (f i (readingOf (take (from + step - from) (drop from s)))) (midOf at (length out - at) out))
+      → length (putMid at (length out - at) out ys) ≡ length out
+      → Turn f m s out₀ (putMid at (length out - at) out ys) (i + 1) (from + step) (at + bytes) (ruled + one)
+  unfolding ruledIn
+  next e same =
+      let r = readingOf (caseAt s i) in
+      let b : bytes ≡ length (f i r) = rw lent at (e .0) in
+      let o : one ≡ ruledOne r = rw lent at (e .1) in
+      let y : ys ≡ laid (f i r) (midOf at (length out - at) out) = rw lent at (e .2) in
+      record {
+        walked = at-step s i from step (t .walked) more length-is;
+        ran = row-turn (added f m s) out₀ out ys i at bytes (t .ran) b y;
+        counted = rw add-one (cc);
+        most = rw (add-one, suc-mul) (omega (arith, short i r));
+        few = omega (arith, one-most i r);
+        same = same ∙ t .same;
+      }
 
 -- the bounds that a turn's sums ask
 pub bytes-most : (b k : ℕ) (r : Reading) → b ≡ length (entryBytes k r) → b ≤ 96

@@ -1,25 +1,17 @@
--- What a sheet answers (RULE R3.0.5, R10.3 to R10.6). A sheet is a row of cases.
-use Prim.Native.Nat.{ℕ, zero, suc, _+_, _-_, _*_, _/_, _%_}
+-- What a sheet answers (RULE R3.0.5, R10.3 to R10.6). A sheet is a row of cases, cut as `Cut` says.
+use Prim.Native.Nat.{ℕ, zero, suc, _+_, _-_, _*_}
 use mathlib.Core.Bool.{Bool, _&&_}
 use mathlib.Core.List.{List, [], _∷_, _++_}
-use lib.ListN.{length, take, drop}
+use lib.ListN.{length}
 use lib.Dec.{leb, eqb}
 use Rattle.wire.specs.Numbers.{bytes}
 use Rattle.wire.specs.Laid.{row}
 use Rattle.wire.specs.Tests.{pick, firstFailed}
 use Rattle.cases.specs.Cases.{readingOf}
 use Rattle.answer.specs.Answer.{answerOf}
+unfoldable pub use Rattle.cut.specs.Cut.{whole, caseAt, startOf}
+pub use Rattle.cut.specs.Cut.{casesIn}
 use Rattle.sheet.specs.Words.{Reading, SheetAnswer}
-
--- ---- the place of a case: case k begins at 88 · k
-abbrev pub startOf : List ℕ → ℕ → ℕ
-startOf s k = k * 88
-
-unfoldable pub caseAt : List ℕ → ℕ → List ℕ
-caseAt s k = take 88 (drop (startOf s k) s)
-
-abbrev pub casesIn : List ℕ → ℕ
-casesIn s = length s / 88
 
 -- ---- what a case adds. A judgement doesn't know its index.
 
@@ -43,9 +35,9 @@ unfoldable pub ruledIn : List ℕ → ℕ → ℕ
 ruledIn s zero = 0
 ruledIn s (suc k) = ruledIn s k + ruledOne (readingOf (caseAt s k))
 
--- ---- the whole sheet: 10 where it is no whole number of cases or too long, then 11, then each case
+-- ---- the whole sheet: 10 where it is no row of whole cases or too long, then 11, then each case
 unfoldable pub wholeCases : List ℕ → Bool
-wholeCases s = eqb (length s % 88) 0 && leb (length s) 52800
+wholeCases s = whole s && leb (length s) 52800
 
 unfoldable pub sheetRefusalOf : List ℕ → ℕ → ℕ
 sheetRefusalOf s room = firstFailed ((10, wholeCases s) ∷ (11, leb (casesIn s * 96) room) ∷ [])

@@ -1,12 +1,13 @@
 // A sheet: a row of cases, each ruled as by itself, 96 bytes of answer for a ruled case and 12 for a refused one.
-// Refused whole with 10 (a length that is no whole number of cases, or more than 600 of them) or 11 (room for less than
+// Refused whole with 10 (no row of whole cases of known kinds, or more than 52,800 bytes) or 11 (room for less than
 // 96 bytes a case), and then nothing is written.
 ghost use mathlib.Core.Path.{_≡_};
 ghost use Prim.Native.Nat.{_≤_};
 ghost use lib.ListN.{length};
 ghost use Rattle.wire.specs.Laid.{laid};
 ghost use Rattle.cases.specs.Cases.{readingOf};
-ghost use Rattle.sheet.specs.Sheet.{refusalBytes, entryBytes, ruledOne, wholeCases, sheetOf};
+ghost use Rattle.sheet.specs.Sheet.{refusalBytes, entryBytes, ruledOne, casesIn, wholeCases, sheetOf};
+use cut::Count;
 
 // What became of a sheet: the number where it was refused whole, with counts of 0; else 0, the bytes written, and how many
 // cases were ruled and refused.
@@ -65,30 +66,37 @@ fn refuse(number: u8) -> SheetAnswer
     }
 }
 
-// Whether a sheet is a whole number of cases, 600 at most.
-pub fn whole_cases(sheet: &[u8]) -> bool
-    ensures { λ r. ⌜ r ≡ wholeCases (now (sheet .entry)) ⌝ }
+// Whether a sheet is whole cases to its end, of 52,800 bytes at most, and how many they are.
+pub fn whole_cases(sheet: &[u8]) -> Count
+    ensures { λ r. ⌜ (r .whole ≡ wholeCases (now (sheet .entry))) × (r .cases ≡ casesIn (now (sheet .entry))) ⌝ }
 {
-    (sheet.len() % 88 == 0) & (sheet.len() <= 52800)
+    let c = cut::count_cases(sheet);
+    Count {
+        whole: c.whole & (sheet.len() <= 52800),
+        cases: c.cases,
+    }
 }
 
 // Rules a sheet: 10, 11, then each case by itself.
 pub fn rule_sheet(sheet: &[u8], out: &mut [u8]) -> SheetAnswer
     ensures { λ r. ⌜ (r ≡ sheetOf (now (sheet .entry)) (length (now (out .entry))) .0) × (now (out .exit) ≡ laid (sheetOf (now (sheet .entry)) (length (now (out .entry))) .1) (now (out .entry))) ⌝ }
 {
-    if !whole_cases(sheet) {
+    let c = whole_cases(sheet);
+    if !c.whole {
         return refuse(10);
     }
-    let n = sheet.len() / 88;
+    let n = c.cases;
     if out.len() < n * 96 {
         return refuse(11);
     }
     let mut i: usize = 0;
+    let mut from: usize = 0;
     let mut at: usize = 0;
     let mut ruled: usize = 0;
     while i < n {
-        let from = i * 88;
-        let e = rule_entry(&sheet[from..from + 88], i as u32, &mut out[at..]);
+        let step = cut::length_at(sheet, from);
+        let e = rule_entry(&sheet[from..from + step], i as u32, &mut out[at..]);
+        from += step;
         at += e.bytes;
         ruled += e.ruled;
         i += 1;

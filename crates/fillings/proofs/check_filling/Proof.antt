@@ -9,14 +9,14 @@ whole-cases-requires : tie.Need-whole-cases-requires
 whole-cases-requires c κs = search needs
 
 returns : tie.Need-returns
-returns c = sheet-fails _ _ (sym (c .before .whole-cases .ensures) ∙ fails _ (c .if1 .taken))
+returns c = sheet-fails _ _ (sym (c .before .before .whole-cases .ensures .0) ∙ fails _ (c .if1 .taken))
 
 check-quotes-requires : tie.Need-check-quotes-requires
 check-quotes-requires c κs = search needs
 
 returns-2 : tie.Need-returns-2
 returns-2 c = let t = c .before in
-    quotes-decide _ _ _ (sym (t .before .whole-cases .ensures) ∙ holds _ (t .if1 .left)) (c .check-quotes .ensures)
+    quotes-decide _ _ _ (sym (t .before .before .whole-cases .ensures .0) ∙ holds _ (t .if1 .left)) (c .check-quotes .ensures)
 
 pub check-filling-spec : {M : Type 1} → statement M
 check-filling-spec =

@@ -1,28 +1,29 @@
 -- Of the cases passed, so many are ruled; a case that is lent is the case of its place.
-use Prim.Native.Nat.{_-_, _≤_}
+use Prim.Native.Nat.{_-_, _<_}
 use mathlib.Core.Path.{_≡_, refl}
 use native.Mathlib.Numerals.{add-one}
 use native.Mathlib.Omega.{arith}
 use denote.Ref.{now}
 use Rattle.cases.specs.Cases.{readingOf}
+use Rattle.cut.proofs.Walk.{At, at-start, at-lent, at-step}
 use Rattle.sheet.specs.Sheet.{caseAt, casesIn, ruledOne, ruledIn}
-use Rattle.sheet.proofs.Turns.{lent, few-more}
+use Rattle.sheet.proofs.Turns.{few-more}
 use Rattle.sheet.proofs.Counts.{ruled-within}
 use Rattle.report.proofs.count_ruled.Statement.{statement}
 use Rattle.report.proofs.count_ruled.Tie as tie
 
 abbrev Inv-loop : tie.InvT-loop
-Inv-loop sheet n i₀ ruled₀ i ruled = (i ≤ casesIn sheet) × (ruled ≡ ruledIn sheet i)
+Inv-loop sheet n i₀ at₀ ruled₀ i at ruled = At sheet i at × (ruled ≡ ruledIn sheet i)
 
 abbrev μ-loop : tie.MeasureT-loop
-μ-loop sheet n i₀ ruled₀ i ruled = n - i
+μ-loop sheet n i₀ at₀ ruled₀ i at ruled = n - i
 
 loop-holds : tie.Need-loop-holds Inv-loop μ-loop
 unfolding ruledIn
-loop-holds c = (omega arith, refl)
+loop-holds c = (at-start _, refl)
 
-mul-from : tie.Need-mul-from Inv-loop μ-loop
-mul-from c = omega arith
+length-at-requires : tie.Need-length-at-requires Inv-loop μ-loop
+length-at-requires c κs = omega arith
 
 add-ruled-one : tie.Need-add-ruled-one Inv-loop μ-loop
 add-ruled-one c = omega arith
@@ -41,8 +42,11 @@ ruled-one-requires c κs = tt
 
 add-ruled : tie.Need-add-ruled Inv-loop μ-loop
 add-ruled c =
-    let l = c .before .before .before in
+    let l = c .before .before .before .before in
     omega (arith, ruled-within (now (l .before .before .args .sheet)) (l .loop .i), few-more _ _ (c .ruled-one .ensures))
+
+add-at : tie.Need-add-at Inv-loop μ-loop
+add-at c = omega arith
 
 add-i : tie.Need-add-i Inv-loop μ-loop
 add-i c = omega arith
@@ -53,17 +57,23 @@ loop-less c = omega arith
 loop-again : tie.Need-loop-again Inv-loop μ-loop
 unfolding ruledIn
 loop-again c =
-    let l = c .before .before .before in
+    let g = c .before .before in
+    let l = g .before .before in
     let s = now (l .before .before .args .sheet) in
-    let one : c .ruled-one .result ≡ ruledOne (readingOf (caseAt s (l .loop .i))) = rw (lent s (l .loop .i)) at (c .ruled-one .ensures) in
-    (omega arith, rw add-one (cc))
+    let v = l .loop .inv in
+    let more : l .loop .i < casesIn s = omega (arith, l .before .before .pre) in
+    let long = g .length-at .ensures .0 in
+    let one : c .ruled-one .result ≡ ruledOne (readingOf (caseAt s (l .loop .i))) = rw (at-lent s (l .loop .i) (l .loop .at) (g .length-at .result) (v .0) more long) at (c .ruled-one .ensures) in
+    (at-step s (l .loop .i) (l .loop .at) (g .length-at .result) (v .0) more long, rw add-one (cc))
 
 returns : tie.Need-returns Inv-loop μ-loop
 returns c =
     let l = c .before in
-    let s = now (l .before .before .args .sheet) in
-    let done : l .loop .i ≡ casesIn s = omega arith in
-    rw (← done) (l .loop .inv .1, omega (arith, ruled-within s (l .loop .i)))
+    let v = l .loop .inv in
+    let t = l .before .before in
+    let s = now (t .args .sheet) in
+    let done : l .loop .i ≡ t .args .n = omega (arith, t .pre, v .0 .within) in
+    rw (← done) (v .1, omega (arith, ruled-within s (l .loop .i)))
 
 pub count-ruled-spec : {M : Type 1} → statement M
 count-ruled-spec =
@@ -72,13 +82,14 @@ count-ruled-spec =
     Inv-loop
     μ-loop
     loop-holds
-    mul-from
+    length-at-requires
     add-ruled-one
     sub-ruled-one
     part-ruled-one-start
     part-ruled-one-end
     ruled-one-requires
     add-ruled
+    add-at
     add-i
     loop-less
     loop-again

@@ -5,7 +5,7 @@ use denote.Ref.{now}
 use borrow.Author.Needs.{needs}
 use Rattle.wire.proofs.Laid.{laid-none}
 use Rattle.lines.proofs.Joined.{as-line}
-use Rattle.report.proofs.Pieces.{at-line, at-end, at-none}
+use Rattle.report.proofs.Pieces.{at-place, at-line, at-end, at-none}
 use Rattle.report.proofs.put_piece.Statement.{statement}
 use Rattle.report.proofs.put_piece.Tie as tie
 
@@ -23,8 +23,12 @@ returns c =
 sub-i : tie.Need-sub-i
 sub-i c = search needs
 
-mul-from : tie.Need-mul-from
-mul-from c = search needs
+start-of-requires : tie.Need-start-of-requires
+start-of-requires c κs = search needs
+
+length-at-requires : tie.Need-length-at-requires
+length-at-requires c κs =
+    at-place _ _ _ _ (c .before .before .before .before .before .pre .0) (c .before .if2 .taken) (c .start-of .ensures) .inside
 
 add-put-case : tie.Need-add-put-case
 add-put-case c = search needs
@@ -50,9 +54,10 @@ same-length-2 c = search needs
 returns-2 : tie.Need-returns-2
 returns-2 c =
     let p = c .before .before in
-    let t = p .before .before .before in
-    let a = t .before .before .before .before .args in
-    as-line _ _ _ _ _ (at-line (now (a .sheet)) (a .k) _ (omega arith) (omega arith)) (p .put-case .ensures .0, p .put-case .ensures .2)
+    let g = p .before .before .before in
+    let f = g .before in
+    let t = f .before .before .before .before .before in
+    as-line _ _ _ _ _ (at-line (now (t .args .sheet)) _ (t .args .k) _ _ _ (omega arith) (t .pre .0) (f .before .if2 .taken) (f .start-of .ensures) (g .length-at .ensures .0)) (p .put-case .ensures .0, p .put-case .ensures .2)
 
 count-ruled-requires : tie.Need-count-ruled-requires
 count-ruled-requires c κs = search needs
@@ -94,7 +99,8 @@ put-piece-spec =
     same-length
     returns
     sub-i
-    mul-from
+    start-of-requires
+    length-at-requires
     add-put-case
     sub-put-case
     part-put-case-start

@@ -18,7 +18,9 @@ part-put-cases-end : tie.Need-part-put-cases-end
 part-put-cases-end c = omega (arith, header-most)
 
 put-cases-requires : tie.Need-put-cases-requires
-put-cases-requires c κs = (c .before .before .before .before .before .before .before .pre .0, simp (length-take, length-drop) (omega (arith, header-most)))
+put-cases-requires c κs =
+    let s = c .before .before .before .before .before .before .before in
+    (s .pre .0, s .pre .1, simp (length-take, length-drop) (omega (arith, header-most)))
 
 add-end : tie.Need-add-end
 add-end c = omega (arith, header-most)

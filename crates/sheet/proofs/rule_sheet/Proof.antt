@@ -1,4 +1,4 @@
-use Prim.Native.Nat.{_-_, _/_}
+use Prim.Native.Nat.{_-_, _≤_}
 use mathlib.Core.Path.{_≡_, sym, ap, _∙_}
 use mathlib.Core.List.{[]}
 use native.Mathlib.Omega.{arith}
@@ -7,18 +7,19 @@ use denote.Ref.{now}
 use borrow.Author.Needs.{needs}
 use Rattle.wire.proofs.Tests.{fails, holds}
 use Rattle.wire.proofs.Laid.{laid-none, ends}
+use Rattle.cut.specs.Cut.{casesIn}
 use Rattle.sheet.specs.Words.{SheetAnswer}
 use Rattle.sheet.specs.Sheet.{entryBytes}
 use Rattle.sheet.proofs.Entries.{entry-most}
-use Rattle.sheet.proofs.Turns.{Turn, first, next, sheet-refused, sheet-room, whole-length, sheet-ruled, bytes-most, few-more}
+use Rattle.sheet.proofs.Turns.{Turn, first, next, sheet-refused, sheet-room, whole-few, sheet-ruled, bytes-most, few-more}
 use Rattle.sheet.proofs.rule_sheet.Statement.{statement}
 use Rattle.sheet.proofs.rule_sheet.Tie as tie
 
 abbrev Inv-loop : tie.InvT-loop
-Inv-loop sheet out₀ n i₀ at₀ ruled₀ out i at ruled = Turn entryBytes 96 sheet out₀ out i at ruled
+Inv-loop sheet out₀ n i₀ from₀ at₀ ruled₀ out i from at ruled = Turn entryBytes 96 sheet out₀ out i from at ruled
 
 abbrev μ-loop : tie.MeasureT-loop
-μ-loop sheet out₀ n i₀ at₀ ruled₀ out i at ruled = n - i
+μ-loop sheet out₀ n i₀ from₀ at₀ ruled₀ out i from at ruled = n - i
 
 whole-cases-requires : tie.Need-whole-cases-requires Inv-loop μ-loop
 whole-cases-requires c κs = search needs
@@ -29,10 +30,13 @@ refuse-requires c κs = search needs
 returns : tie.Need-returns Inv-loop μ-loop
 returns c =
     let t = c .before in
-    ends _ _ _ (sheet-refused _ _ (sym (t .before .whole-cases .ensures) ∙ fails _ (t .if1 .taken)) ∙ ap (λ (a : SheetAnswer). (a, [])) (sym (c .refuse .ensures))) (laid-none _)
+    let w = t .before .before .whole-cases .ensures .0 in
+    ends _ _ _ (sheet-refused _ _ (sym w ∙ fails _ (t .if1 .taken)) ∙ ap (λ (a : SheetAnswer). (a, [])) (sym (c .refuse .ensures))) (laid-none _)
 
 mul-if2 : tie.Need-mul-if2 Inv-loop μ-loop
-mul-if2 c = omega arith
+mul-if2 c =
+    let k = c .before .before .whole-cases .ensures in
+    omega (arith, k .1, whole-few _ (sym (k .0) ∙ holds _ (c .if1 .left)))
 
 refuse-requires-2 : tie.Need-refuse-requires-2 Inv-loop μ-loop
 refuse-requires-2 c κs = search needs
@@ -41,13 +45,14 @@ returns-2 : tie.Need-returns-2 Inv-loop μ-loop
 returns-2 c =
     let t = c .before in
     let w = t .before in
-    ends _ _ _ (sheet-room _ _ (sym (w .before .whole-cases .ensures) ∙ holds _ (w .if1 .left)) (t .if2 .taken) ∙ ap (λ (a : SheetAnswer). (a, [])) (sym (c .refuse2 .ensures))) (laid-none _)
+    let k = w .before .before .whole-cases .ensures in
+    ends _ _ _ (sheet-room _ _ (sym (k .0) ∙ holds _ (w .if1 .left)) (omega (arith, k .1)) ∙ ap (λ (a : SheetAnswer). (a, [])) (sym (c .refuse2 .ensures))) (laid-none _)
 
 loop-holds : tie.Need-loop-holds Inv-loop μ-loop
 loop-holds c = first entryBytes 96 _ _
 
-mul-from : tie.Need-mul-from Inv-loop μ-loop
-mul-from c = omega arith
+length-at-requires : tie.Need-length-at-requires Inv-loop μ-loop
+length-at-requires c κs = omega arith
 
 add-rule-entry : tie.Need-add-rule-entry Inv-loop μ-loop
 add-rule-entry c = omega arith
@@ -63,8 +68,9 @@ part-rule-entry-end c = omega arith
 
 cast-rule-entry : tie.Need-cast-rule-entry Inv-loop μ-loop
 cast-rule-entry c =
-    let w = c .before .before .before .before in
-    omega (arith, whole-length _ (sym (w .before .whole-cases .ensures) ∙ holds _ (w .if1 .left)))
+    let w = c .before .before .before .before .before in
+    let k = w .before .before .whole-cases .ensures in
+    omega (arith, k .1, whole-few _ (sym (k .0) ∙ holds _ (w .if1 .left)))
 
 sub-rule-entry-2 : tie.Need-sub-rule-entry-2 Inv-loop μ-loop
 sub-rule-entry-2 c = omega arith
@@ -77,6 +83,9 @@ part-rule-entry-end-2 c = omega arith
 
 rule-entry-requires : tie.Need-rule-entry-requires Inv-loop μ-loop
 rule-entry-requires c κs = simp (length-take, length-drop) (omega arith)
+
+add-from : tie.Need-add-from Inv-loop μ-loop
+add-from c = omega arith
 
 add-at : tie.Need-add-at Inv-loop μ-loop
 add-at c = omega (arith, bytes-most _ _ _ (c .before .before .before .rule-entry .ensures .0))
@@ -91,23 +100,28 @@ loop-less : tie.Need-loop-less Inv-loop μ-loop
 loop-less c = omega arith
 
 loop-again : tie.Need-loop-again Inv-loop μ-loop
-loop-again c = let e = c .before .before .before .before in
-    let l = e .before .before .before .before in
-    next entryBytes 96 entry-most _ _ _ _ _ _ _ _ _ (l .loop .inv) (e .before .before .before .loop-test .taken) (e .rule-entry .ensures) (c .before .before .before .out .given .1)
+loop-again c =
+    let e = c .before .before .before .before in
+    let g = e .before .before .before in
+    let l = g .before .before in
+    next entryBytes 96 entry-most _ _ _ _ _ _ _ _ _ _ _ (l .loop .inv) (omega arith) (g .length-at .ensures .0) (e .rule-entry .ensures) (c .before .before .before .out .given .1)
 
-sub-t11 : tie.Need-sub-t11 Inv-loop μ-loop
-sub-t11 c = omega arith
+sub-t12 : tie.Need-sub-t12 Inv-loop μ-loop
+sub-t12 c = omega arith
 
 same-length : tie.Need-same-length Inv-loop μ-loop
 same-length c = omega arith
 
 returns-3 : tie.Need-returns-3 Inv-loop μ-loop
-returns-3 c = let l = c .before in
+returns-3 c =
+    let l = c .before in
     let t = l .before in
     let w = t .before in
-    let done : l .loop .i ≡ length (now (w .before .before .before .before .args .sheet)) / 88 = omega arith in
-    let e = sheet-ruled _ _ (sym (w .before .whole-cases .ensures) ∙ holds _ (w .if1 .left)) (t .if2 .left) in
+    let k = w .before .before .whole-cases .ensures in
     let v = l .loop .inv in
+    let a = w .before .before .before .before .before .args in
+    let done : l .loop .i ≡ casesIn (now (a .sheet)) = omega (arith, k .1, v .walked .within) in
+    let e = sheet-ruled (now (a .sheet)) (length (now (a .out))) (sym (k .0) ∙ holds _ (w .if1 .left)) (omega (arith, k .1)) in
     ends _ _ _ (e ∙ rw (← done) (cc)) (v .ran .1)
 
 pub rule-sheet-spec : {M : Type 1} → statement M
@@ -123,7 +137,7 @@ rule-sheet-spec =
     refuse-requires-2
     returns-2
     loop-holds
-    mul-from
+    length-at-requires
     add-rule-entry
     sub-rule-entry
     part-rule-entry-start
@@ -133,11 +147,12 @@ rule-sheet-spec =
     part-rule-entry-start-2
     part-rule-entry-end-2
     rule-entry-requires
+    add-from
     add-at
     add-ruled
     add-i
     loop-less
     loop-again
-    sub-t11
+    sub-t12
     same-length
     returns-3)
