@@ -11,7 +11,7 @@ use Rattle.text.proofs.Decimal.{decimal-length}
 use Rattle.text.specs.Text.{letters}
 use Rattle.phrases.proofs.Lengths.{refusal-most}
 use Rattle.sheet.specs.Sheet.{casesIn}
-use Rattle.sheet.proofs.Turns.{whole-length}
+use Rattle.sheet.proofs.Turns.{whole-few}
 use Rattle.fillings.specs.Fillings.{fillNumber, filledIn, readIn, fillSheetRefusalOf}
 use Rattle.fillings.proofs.Laws.{whole-first}
 use Rattle.fill_report.specs.Told.{leftLine, toldOf, told, countLine, casesText, ownerWord, wholeLine, fillText}
@@ -35,7 +35,7 @@ owner-most number = either (λ (w : List ℕ). length w ≤ 7) (eqb number 10) (
 whole-most : (number : ℕ) → length (wholeLine number) ≤ 97
 whole-most number = simp length-append (omega (arith, owner-most number, refusal-most number))
 
-cases-most : (q s : List ℕ) → length s ≤ 52800 → length (casesText q s (casesIn s)) ≤ 131072
+cases-most : (q s : List ℕ) → casesIn s ≤ 600 → length (casesText q s (casesIn s)) ≤ 131072
 cases-most q s h =
     let rows = row-most (told q s) 118 (λ k. told-most k (fillNumber q s k)) (casesIn s) in
     simp length-append (omega (arith, rows, count-most (filledIn q s (casesIn s)) (casesIn s - filledIn q s (casesIn s)) (readIn q s (casesIn s))))
@@ -44,5 +44,5 @@ pub text-most : (q s : List ℕ) → length (fillText q s) ≤ 131072
 unfolding fillText
 text-most q s =
     either (λ (w : List ℕ). length w ≤ 131072) (eqb (fillSheetRefusalOf q s) 0) (casesText q s (casesIn s)) (wholeLine (fillSheetRefusalOf q s))
-    (λ e. cases-most q s (whole-length s (whole-first q s (eqb-true (fillSheetRefusalOf q s) 0 e))))
+    (λ e. cases-most q s (whole-few s (whole-first q s (eqb-true (fillSheetRefusalOf q s) 0 e))))
     (λ _. omega (arith, whole-most (fillSheetRefusalOf q s)))

@@ -87,20 +87,21 @@ fn put_case(quotes: &[u8], case: &[u8], index: u32, out: &mut [u8]) -> Said
 }
 
 // What is said of each case, one after the other.
-fn put_cases(quotes: &[u8], sheet: &[u8], out: &mut [u8]) -> Said
-    requires { ⌜ (length (now sheet) ≤ 52800) × (casesIn (now sheet) * 118 ≤ length (now out)) ⌝ }
-    ensures { λ r. ⌜ (r .bytes ≡ length (row (told (now (quotes .entry)) (now (sheet .entry))) (casesIn (now (sheet .entry))))) × (r .filled ≡ filledIn (now (quotes .entry)) (now (sheet .entry)) (casesIn (now (sheet .entry)))) × (now (out .exit) ≡ laid (row (told (now (quotes .entry)) (now (sheet .entry))) (casesIn (now (sheet .entry)))) (now (out .entry))) ⌝ }
-    ensures { λ r. ⌜ r .read ≡ readIn (now (quotes .entry)) (now (sheet .entry)) (casesIn (now (sheet .entry))) ⌝ }
-    ensures { λ r. ⌜ (r .bytes ≤ casesIn (now (sheet .entry)) * 118) × (r .filled ≤ casesIn (now (sheet .entry))) × (r .read ≤ casesIn (now (sheet .entry)) * 2000) ⌝ }
+fn put_cases(quotes: &[u8], sheet: &[u8], n: usize, out: &mut [u8]) -> Said
+    requires { ⌜ (n ≡ casesIn (now sheet)) × (n ≤ 600) × (n * 118 ≤ length (now out)) ⌝ }
+    ensures { λ r. ⌜ (r .bytes ≡ length (row (told (now (quotes .entry)) (now (sheet .entry))) n)) × (r .filled ≡ filledIn (now (quotes .entry)) (now (sheet .entry)) n) × (now (out .exit) ≡ laid (row (told (now (quotes .entry)) (now (sheet .entry))) n) (now (out .entry))) ⌝ }
+    ensures { λ r. ⌜ r .read ≡ readIn (now (quotes .entry)) (now (sheet .entry)) n ⌝ }
+    ensures { λ r. ⌜ (r .bytes ≤ n * 118) × (r .filled ≤ n) × (r .read ≤ n * 2000) ⌝ }
 {
-    let n = sheet.len() / 88;
     let mut i: usize = 0;
+    let mut from: usize = 0;
     let mut at: usize = 0;
     let mut filled: usize = 0;
     let mut read: usize = 0;
     while i < n {
-        let from = i * 88;
-        let p = put_case(quotes, &sheet[from..from + 88], i as u32, &mut out[at..]);
+        let step = cut::length_at(sheet, from);
+        let p = put_case(quotes, &sheet[from..from + step], i as u32, &mut out[at..]);
+        from += step;
         at += p.bytes;
         filled += p.filled;
         read += p.read;
@@ -114,13 +115,12 @@ fn put_cases(quotes: &[u8], sheet: &[u8], out: &mut [u8]) -> Said
 }
 
 // The cases, then the counts.
-fn put_whole(quotes: &[u8], sheet: &[u8], out: &mut [u8]) -> usize
-    requires { ⌜ (length (now sheet) ≤ 52800) × (131072 ≤ length (now out)) ⌝ }
-    ensures { λ r. ⌜ (r ≡ length (casesText (now (quotes .entry)) (now (sheet .entry)) (casesIn (now (sheet .entry))))) × (now (out .exit) ≡ laid (casesText (now (quotes .entry)) (now (sheet .entry)) (casesIn (now (sheet .entry)))) (now (out .entry))) × (r ≤ 131072) ⌝ }
+fn put_whole(quotes: &[u8], sheet: &[u8], n: usize, out: &mut [u8]) -> usize
+    requires { ⌜ (n ≡ casesIn (now sheet)) × (n ≤ 600) × (131072 ≤ length (now out)) ⌝ }
+    ensures { λ r. ⌜ (r ≡ length (casesText (now (quotes .entry)) (now (sheet .entry)) n)) × (now (out .exit) ≡ laid (casesText (now (quotes .entry)) (now (sheet .entry)) n) (now (out .entry))) × (r ≤ 131072) ⌝ }
 {
-    let p = put_cases(quotes, sheet, out);
+    let p = put_cases(quotes, sheet, n, out);
     let end = p.bytes;
-    let n = sheet.len() / 88;
     end
         + put_counts(
             &mut out[end..],
@@ -137,7 +137,8 @@ pub fn print_filling(quotes: &[u8], sheet: &[u8], out: &mut [u8; 131072]) -> usi
 {
     let number = fillings::check_filling(quotes, sheet);
     if number == 0 {
-        return put_whole(quotes, sheet, out);
+        let c = cut::count_cases(sheet);
+        return put_whole(quotes, sheet, c.cases, out);
     }
     put_refused(out, number)
 }

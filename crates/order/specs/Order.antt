@@ -2,14 +2,15 @@
 use Prim.Native.Nat.{ℕ, _<_}
 use mathlib.Core.Path.{_≡_}
 use mathlib.Core.List.{List}
-use lib.ListN.{length}
 use Rattle.wire.specs.Laid.{row}
 use Rattle.cases.specs.Cases.{readingOf}
-use Rattle.sheet.specs.Sheet.{caseAt, casesIn, entryBytes}
+use Rattle.sheet.specs.Sheet.{caseAt, casesIn, entryBytes, wholeCases}
 
--- Case k of t is case σ k of s: σ stays below the number of cases, and no two places of t share a case. So t has every case of s once.
+-- The test 10 takes both alike, there are as many cases in both, and case k of t is case σ k of s: σ stays below the number of cases, and no two
+-- places of t share a case. So t has every case of s once.
 pub record Reordered (σ : ℕ → ℕ) (s t : List ℕ) : Type 0 where
-  pub long : length s ≡ length t
+  pub alike : wholeCases t ≡ wholeCases s
+  pub many : casesIn t ≡ casesIn s
   pub within : (k : ℕ) → k < casesIn s → σ k < casesIn s
   pub apart : (k l : ℕ) → k < casesIn s → l < casesIn s → σ k ≡ σ l → k ≡ l
   pub same : (k : ℕ) → k < casesIn s → caseAt t k ≡ caseAt s (σ k)

@@ -1,7 +1,9 @@
-use mathlib.Core.Path.{sym, _∙_}
+use mathlib.Core.Path.{sym, ap, _∙_}
 use native.Mathlib.Omega.{arith}
-use Rattle.sheet.proofs.Turns.{whole-length}
+use denote.Ref.{now}
+use Rattle.sheet.proofs.Turns.{whole-few}
 use Rattle.fillings.proofs.Laws.{whole-first}
+use Rattle.fill_report.specs.Told.{casesText}
 use Rattle.fill_report.proofs.Lines.{text-filled, text-refused, said}
 use borrow.Author.Needs.{needs}
 use Rattle.fill_report.proofs.print_filling.Statement.{statement}
@@ -10,16 +12,24 @@ use Rattle.fill_report.proofs.print_filling.Tie as tie
 check-filling-requires : tie.Need-check-filling-requires
 check-filling-requires c κs = search needs
 
+count-cases-requires : tie.Need-count-cases-requires
+count-cases-requires c κs = search needs
+
 put-whole-requires : tie.Need-put-whole-requires
 put-whole-requires c κs =
-    let t = c .before in
-    (whole-length _ (whole-first _ _ (sym (t .before .check-filling .ensures) ∙ t .if1 .taken)), omega arith)
+    let k = c .before .count-cases .ensures .1 in
+    let t = c .before .before in
+    (k, rw k (whole-few _ (whole-first _ _ (sym (t .before .check-filling .ensures) ∙ t .if1 .taken))), omega arith)
 
 returns : tie.Need-returns
 returns c =
-    let t = c .before .before in
+    let k = c .before .before .count-cases .ensures .1 in
+    let t = c .before .before .before in
     let w = c .put-whole .ensures in
-    said _ _ _ _ _ (text-filled _ _ _ (t .before .check-filling .ensures) (t .if1 .taken)) (w .0) (w .1) (omega (arith, w .0, w .2))
+    let a = t .before .before .before .before .args in
+    said _ _ _ _ _
+    (text-filled (now (a .quotes)) (now (a .sheet)) _ (t .before .check-filling .ensures) (t .if1 .taken) ∙ ap (casesText (now (a .quotes)) (now (a .sheet))) (sym k))
+    (w .0) (w .1) (omega (arith, w .0, w .2))
 
 put-refused-requires : tie.Need-put-refused-requires
 put-refused-requires c κs = search needs
@@ -33,4 +43,4 @@ returns-2 c =
 pub print-filling-spec : {M : Type 1} → statement M
 print-filling-spec =
     tie.close
-    (tie.spec check-filling-requires put-whole-requires returns put-refused-requires returns-2)
+    (tie.spec check-filling-requires count-cases-requires put-whole-requires returns put-refused-requires returns-2)
