@@ -21,7 +21,7 @@ use Rattle.cut.proofs.Laws.{case-is, changed-many, changed-else}
 use Rattle.cut.proofs.Alike.{case-byte, alike-whole, alike-many, alike-else, alike-long, alike-byte}
 use Rattle.answer.specs.Answer.{answerOf}
 use Rattle.alike.specs.Cases.{Outside, AlikeBut}
-use Rattle.alike.proofs.Cases.{from-48, to-64, alike-long, blind}
+use Rattle.alike.proofs.Cases.{from-48, to-64, blind}
 use Rattle.alike.specs.Words.{Reading}
 use Rattle.sheet.specs.Sheet.{startOf, caseAt, casesIn, entryBytes, ruledOne, entryOf, ruledIn, wholeCases, sheetOf}
 use Rattle.alike.specs.Sheets.{ButOne, earlier, later, OnlyEntry, OutsideIn, AlikeButOne, OnlyCase}
@@ -128,5 +128,5 @@ module _ (who : Side) (s t : List ℕ) (j : ℕ) (a : AlikeButOne who s t j) whe
       record {
         first = o .first ∙ ap (λ (w : List ℕ). earlier s j ++ (w ++ later s j)) (accepted-entry s j (a .first));
         second = o .second ∙ ap (λ (w : List ℕ). earlier s j ++ (w ++ later s j)) (accepted-entry t j (a .second));
-        blind = blind who (caseAt s j) (caseAt t j) (alike-long who (caseAt s j) (caseAt t j) (a .first) (a .second) case-alike) case-alike (a .untold);
+        blind = blind who (caseAt s j) (caseAt t j) (alike-long s t j within inside) case-alike (a .untold);
       }
