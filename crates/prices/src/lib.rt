@@ -65,7 +65,10 @@ pub fn prices_ok(f: Facts) -> bool
     if !quotes_priced(market) {
         return false;
     }
-    price_ok(highest) & price_ok(lowest) & price_ok(agreed) & differential_ok(forms::differential_of(form))
+    price_ok(highest)
+        & price_ok(lowest)
+        & price_ok(agreed)
+        & differential_ok(forms::differential_of(form))
 }
 
 // ---- 6: contracts and sizes

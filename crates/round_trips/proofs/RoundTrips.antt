@@ -38,18 +38,23 @@ written-formed f =
       lists = simp (side-listed, flag-listed, kind-listed, day-listed, agreement-listed);
     }
 
+-- The bytes of facts that pass the tests are accepted, and read as these facts.
+pub record-read : (f : Facts) → Held f → faultOf f ≡ 0 → readingOf (recordBytes f) ≡ accepted f
+record-read f h e =
+    let again = facts-again f h (sound f e) in
+    accepted-at (recordBytes f) (sym (facts-decide (recordBytes f) 0 f (well-formed (recordBytes f) (written-formed f)) (sym again) (sym e)))
+    ∙ ap accepted again
+
 -- Facts that can be written, written over the start of any buffer and read again from there, are the same facts.
 pub written-read : (f : Facts) (o : List ℕ) → Held f → writingOf f (length o) .0 ≡ 0
     → readingOf (take (formLength (f .form)) (laid (writingOf f (length o) .1) o)) ≡ accepted f
 unfolding laid
 written-read f o h e =
     let w = writes f (length o) e in
-    let again = facts-again f h (sound f (w .1)) in
     let n = formLength (f .form) in
     ap (λ (p : ℕ × List ℕ). readingOf (take n (laid (p .1) o))) (writes-facts f (length o) (w .0) (w .1))
     ∙ ap readingOf (take-at (recordBytes f) (drop (length (recordBytes f)) o) n (long-as-form (f .form) f))
-    ∙ accepted-at (recordBytes f) (sym (facts-decide (recordBytes f) 0 f (well-formed (recordBytes f) (written-formed f)) (sym again) (sym (w .1))))
-    ∙ ap accepted again
+    ∙ record-read f h (w .1)
 
 -- room for accepted bytes is room for their form
 room-for : (s : List ℕ) (room : ℕ) → lengthOk s ≡ true → length s ≤ room → formLength (factsOf s .form) ≤ room
