@@ -118,7 +118,7 @@ module _ (κs : Lfts 2) (s s' out out' : RefT (List ℕ)) where
 pub empty-sheet : (room : ℕ) → sheetOf [] room ≡ (record { refusal = 0; written = 0; ruled = 0; refused = 0 }, [])
 empty-sheet = why.empty-sheet
 
--- Each case of a sheet gets the 96 bytes of its answer or, where it is bad, one refusal record of 12 bytes, with its index and one of 2 to 9.
+-- Each case of a sheet gets the 96 bytes of its answer or, where it is bad, one refusal record of 12 bytes, with its index and one of 1 to 9.
 pub entries : (s : List ℕ) (k : ℕ) → k < casesIn s → Entered s k
 entries = why.entered
 

@@ -38,7 +38,9 @@ use Rattle.alike.specs.Cases.{codeIn, AlikeBut, UntoldBytes, Blind}
 use Rattle.answer.proofs as answer
 use Rattle.alike.proofs.Cases as bytes
 use Rattle.sheet.specs.declared.SheetAnswer.{SheetAnswer}
-use Rattle.sheet.specs.Sheet.{caseAt, sheetOf}
+use Rattle.cut.specs.Heads.{pairs, known}
+use Rattle.cut.specs.Cut.{begins, caseLength, cutBy, cut}
+use Rattle.sheet.specs.Sheet.{caseAt, startOf, sheetOf}
 use Rattle.alike.specs.Sheets.{AlikeButOne, OnlyCase}
 use Rattle.sheet.proofs as sheet
 use Rattle.alike.proofs.Sheets as sheets
@@ -115,7 +117,7 @@ abbrev otherBuyer : List ℕ
 otherBuyer = stored goodCase 48 (67 ∷ 68 ∷ 51 ∷ 52 ∷ [])
 
 pub alike-sheets : AlikeButOne Buy goodCase otherBuyer 0
-unfolding caseAt readingOf refusalOf headOk zerosOk listsOk codesOk codeOk codeByteOk pricesOk quotesPriced countsOk timesOk limitsOk inRange numberAt factsOf tradeOf marketOf requestOf partyAt settlementOf priceOf momentOf sideOf kindOf dayOf agreementOf flagOf testedIn bandOf inError movedBy wayOf obviousOpen openingOpen catastrophicOpen theoryOf heededOf inTime testedAt
+unfolding pairs known begins caseLength cutBy cut caseAt startOf readingOf refusalOf headOk zerosOk listsOk codesOk codeOk codeByteOk pricesOk quotesPriced countsOk timesOk limitsOk inRange numberAt factsOf tradeOf marketOf requestOf partyAt settlementOf priceOf momentOf sideOf kindOf dayOf agreementOf flagOf testedIn bandOf inError movedBy wayOf obviousOpen openingOpen catastrophicOpen theoryOf heededOf inTime testedAt
 alike-sheets =
     record {
       long = refl;

@@ -1,6 +1,7 @@
 -- The ways in which a call ends (RULE R3.0.2 to R3.0.11).
 use Prim.Native.Nat.{ℕ, _*_, _≤_, _<_}
 use mathlib.Core.Path.{_≡_}
+use mathlib.Core.Bool.{true}
 use mathlib.Core.Logic.{_⊎_}
 use mathlib.Core.List.{List, [], _∷_}
 use lib.ListN.{length, getD}
@@ -9,7 +10,7 @@ use Rattle.cases.specs.Cases.{readingOf}
 use Rattle.answer.specs.Answer.{answerOf}
 use Rattle.filling.specs.Filling.{fillingOf}
 use Rattle.sheet.specs.declared.SheetAnswer.{SheetAnswer}
-use Rattle.sheet.specs.Sheet.{caseAt, casesIn, refusalBytes, entryOf, refusedWhole, ruledWhole}
+use Rattle.sheet.specs.Sheet.{whole, caseAt, casesIn, refusalBytes, entryOf, refusedWhole, ruledWhole}
 
 -- ---- the numbers of each call, in the order of its tests
 
@@ -25,9 +26,9 @@ writeNumbers = 11 ∷ 4 ∷ 5 ∷ 6 ∷ 7 ∷ 8 ∷ 9 ∷ []
 abbrev pub caseNumbers : List ℕ
 caseNumbers = 1 ∷ 11 ∷ 2 ∷ 3 ∷ 4 ∷ 5 ∷ 6 ∷ 7 ∷ 8 ∷ 9 ∷ []
 
--- a case of a sheet: 2 to 9
+-- a case of a sheet: 1 to 9
 abbrev pub entryNumbers : List ℕ
-entryNumbers = 2 ∷ 3 ∷ 4 ∷ 5 ∷ 6 ∷ 7 ∷ 8 ∷ 9 ∷ []
+entryNumbers = 1 ∷ 2 ∷ 3 ∷ 4 ∷ 5 ∷ 6 ∷ 7 ∷ 8 ∷ 9 ∷ []
 
 -- the quotes and a trade's time: 20 to 23
 abbrev pub quoteNumbers : List ℕ
@@ -87,13 +88,18 @@ SheetEnded view s r before after =
     ((r ≡ view (ruledWhole s (casesIn s) .0)) × (casesIn s * 96 ≤ length before) × (after ≡ laid (row (entryOf s) (casesIn s)) before))
     ⊎ (((r ≡ view (refusedWhole 10 .0)) ⊎ (r ≡ view (refusedWhole 11 .0))) × (after ≡ before))
 
--- The number, with the sheet before and after a filling: 0, and the sheet has its length, and each case of it is what filling makes of that case
--- by itself; or one of the numbers, and the sheet is as it was.
+-- The number, with the sheet before and after a filling: 0, and the sheet has its length, is whole, has as many cases, and each of them is what
+-- filling makes of that case by itself; or one of the numbers, and the sheet is as it was.
 abbrev pub SheetFilled : List ℕ → List ℕ → ℕ → List ℕ → Type 0
 SheetFilled q s n after =
-    ((n ≡ 0) × (length after ≡ length s) × ((k : ℕ) → k < casesIn s → caseAt after k ≡ fillingOf q (caseAt s k) .1)) ⊎ (OneOf fillSheetNumbers n × (after ≡ s))
+    ((n ≡ 0)
+    × (length after ≡ length s)
+    × (whole after ≡ true)
+    × (casesIn after ≡ casesIn s)
+    × ((k : ℕ) → k < casesIn s → caseAt after k ≡ fillingOf q (caseAt s k) .1))
+    ⊎ (OneOf fillSheetNumbers n × (after ≡ s))
 
--- Case k of a sheet: accepted, its entry is the 96 bytes of its answer; or refused with one of 2 to 9, its entry is the refusal record of 12
+-- Case k of a sheet: accepted, its entry is the 96 bytes of its answer; or refused with one of 1 to 9, its entry is the refusal record of 12
 -- bytes with its index and number.
 abbrev pub Entered : List ℕ → ℕ → Type 0
 Entered s k =

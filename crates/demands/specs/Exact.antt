@@ -13,6 +13,7 @@ use Rattle.refusals.proofs as refusals
 use Rattle.prices.proofs as prices
 use Rattle.faults.proofs as faults
 use Rattle.cases.proofs as cases
+use Rattle.cut.proofs as cut
 use Rattle.quotes.proofs as quotes
 use Rattle.earlier.proofs as earlier
 use Rattle.halves.proofs as halves
@@ -279,6 +280,16 @@ judge-exact = figures.Exact.judge-exact
 
 pub put-answer-exact : (κs : Lfts 1) → ExactIn (λ a. a .0) (notices.put_answer.Reads.Post κs)
 put-answer-exact = notices.Exact.put-answer-exact
+
+-- ---- cut
+pub length-at-exact : (κs : Lfts 1) → Exact (cut.length_at.Reads.Post κs)
+length-at-exact = cut.Exact.length-at-exact
+
+pub count-cases-exact : (κs : Lfts 1) → Exact (cut.count_cases.Reads.Post κs)
+count-cases-exact = cut.Exact.count-cases-exact
+
+pub start-of-exact : (κs : Lfts 1) → Exact (cut.start_of.Reads.Post κs)
+start-of-exact = cut.Exact.start-of-exact
 
 -- ---- answer, sheet
 pub answer-case-exact : (κs : Lfts 2) → ExactIn (λ a. a .0) (answer.answer_case.Reads.Post κs)

@@ -4,7 +4,7 @@ use Prim.Native.Nat.{ℕ, _≤_}
 use native.Mathlib.Nat.{le-trans}
 use mathlib.Core.Path.{_≡_, sym, ap, _∙_}
 use mathlib.Core.Bool.{true}
-use mathlib.Core.List.{List}
+use mathlib.Core.List.{List, List·Permᴰ}
 use lib.ListN.{length}
 use contract.Lifetimes.{Lfts}
 use denote.Ref.{RefT, now}
@@ -33,7 +33,8 @@ use Rattle.ruling.proofs.Laws as ruling
 use Rattle.ruling.proofs.Reasons as reasons
 use Rattle.alike.proofs.Acceptance as acceptance
 use Rattle.sheet.specs.declared.SheetAnswer.{SheetAnswer}
-use Rattle.sheet.specs.Sheet.{casesIn, entryOf, sheetOf}
+use Rattle.cut.specs.Cut.{cut, together}
+use Rattle.sheet.specs.Sheet.{whole, casesIn, entryOf, sheetOf}
 use Rattle.order.specs.Order.{Reordered, inOrder}
 use Rattle.sheet.proofs as sheet
 use Rattle.order.proofs.Order as order
@@ -61,6 +62,10 @@ sums = ruling.sums
 pub reordering : (σ : ℕ → ℕ) (s t : List ℕ) (room : ℕ) → Reordered σ s t
     → (sheetOf t room .0 ≡ sheetOf s room .0) × (sheetOf t room .0 .refusal ≡ 0 → sheetOf t room .1 ≡ inOrder σ s)
 reordering σ s t room a = (order.reordered-answer σ s t a room, order.reordered-bytes σ s t a room)
+
+-- Nothing more is asked than a whole sheet and its cases in any order: put one after the other, they are such a sheet.
+pub any-order : (s : List ℕ) (ds : List (List ℕ)) → whole s ≡ true → List·Permᴰ (cut s .cases) ds → (σ : ℕ → ℕ) × Reordered σ s (together ds)
+any-order = order.any-order
 
 -- So every two calls of `rule_sheet`, or of `desk_rule_sheet`, on such sheets with as much room.
 module _ (σ : ℕ → ℕ) (κs κs' : Lfts 2) (s s' t t' out out' o o' : RefT (List ℕ)) (a : Reordered σ (now s) (now t)) (room : length (now out) ≡ length (now o)) where

@@ -7,6 +7,7 @@ pub mod Demand3
 pub mod Laws
 pub mod Origins
 pub mod Sheets
+pub mod Cuts
 pub mod Pieces
 pub mod Quotes
 pub mod Counted

@@ -22,7 +22,9 @@ use Rattle.act.specs.Act.{obviousAct, openingAct, actOf}
 use Rattle.ruling.specs.Ruling.{ruledAt, ruledOn, ruledBy, rulingOf}
 use Rattle.notices.specs.Records.{rulingRecord, shows, shownCode, noticeRecord, answerRecords}
 use Rattle.answer.specs.Answer.{caseRefusalOf, answerOf, caseOf}
-use Rattle.sheet.specs.Sheet.{caseAt, refusalBytes, entryBytes, ruledOne, ruledIn, wholeCases, sheetRefusalOf, sheetOf}
+use Rattle.cut.specs.Heads.{pairs, known}
+use Rattle.cut.specs.Cut.{begins, caseLength, cutBy, cut}
+use Rattle.sheet.specs.Sheet.{whole, caseAt, refusalBytes, entryBytes, ruledOne, ruledIn, wholeCases, sheetRefusalOf, sheetOf}
 use Rattle.specimen.specs.Good.{goodCase}
 
 -- Trade 7, two Market Makers: a buy of 10 at 2.000, best offer 1.500, filed after 120 s. 2.000 is at least 1.500 + .25, so 1.500 + .15 for
@@ -73,5 +75,5 @@ openingAnswer =
 -- A sheet of the three is ruled: 96 bytes for the first case, the refusal record for the second, 96 bytes for the third.
 pub good-sheet : sheetOf (goodCase ++ badCase ++ openingCase) 288
     ≡ (record { refusal = 0; written = 204; ruled = 2; refused = 1 }, goodAnswer ++ badAnswer ++ openingAnswer)
-unfolding sheetOf sheetRefusalOf wholeCases row entryBytes refusalBytes ruledOne ruledIn caseAt readingOf refused refusalOf headOk zerosOk listsOk codesOk codeOk codeByteOk pricesOk quotesPriced countsOk timesOk limitsOk inRange numberAt factsOf tradeOf marketOf requestOf partyAt settlementOf priceOf momentOf sideOf kindOf dayOf agreementOf flagOf bandOf inError movedBy obviousAdjustmentOf wayOf obviousOpen openingOpen catastrophicOpen theoryOf heededOf inTime mayNullify openingTested openingStopped obviousAct openingAct actOf ruledAt ruledOn ruledBy rulingOf rulingRecord shows shownCode noticeRecord answerRecords answerOf
+unfolding pairs known begins caseLength cutBy cut whole sheetOf sheetRefusalOf wholeCases row entryBytes refusalBytes ruledOne ruledIn caseAt readingOf refused refusalOf headOk zerosOk listsOk codesOk codeOk codeByteOk pricesOk quotesPriced countsOk timesOk limitsOk inRange numberAt factsOf tradeOf marketOf requestOf partyAt settlementOf priceOf momentOf sideOf kindOf dayOf agreementOf flagOf bandOf inError movedBy obviousAdjustmentOf wayOf obviousOpen openingOpen catastrophicOpen theoryOf heededOf inTime mayNullify openingTested openingStopped obviousAct openingAct actOf ruledAt ruledOn ruledBy rulingOf rulingRecord shows shownCode noticeRecord answerRecords answerOf
 good-sheet = refl

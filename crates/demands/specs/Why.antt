@@ -14,7 +14,7 @@ use Rattle.wire.specs.Tests.{pick, firstFailed}
 use Rattle.wire.proofs.Tests.{either, none-fails}
 use Rattle.wire.proofs.Rows.{row-most, row-same}
 use Rattle.record.specs.Record.{factsOf, recordBytes}
-use Rattle.refusals.specs.Tests.{lengthOk, formTests, byteTests, factTests}
+use Rattle.refusals.specs.Tests.{lengthOk, formTests, factTests}
 use Rattle.cases.specs.Words.{Facts}
 use Rattle.cases.specs.declared.Reading.{Reading}
 use Rattle.cases.specs.Cases.{refusalOf, accepted, readingOf, writeRefusalOf}
@@ -22,9 +22,9 @@ use Rattle.cases.proofs.Laws.{read-number, accepted-at, passed-facts}
 use Rattle.answer.specs.Answer.{caseRefusalOf, answerOf, caseOf}
 use Rattle.answer.proofs.Cases.{answer-length}
 use Rattle.sheet.specs.declared.SheetAnswer.{SheetAnswer}
-use Rattle.sheet.specs.Sheet.{caseAt, casesIn, refusalBytes, entryBytes, ruledIn, wholeCases, sheetRefusalOf, refusedWhole, ruledWhole, sheetOf}
-use Rattle.sheet.proofs.Turns.{whole-length}
-use Rattle.sheet.proofs.Whole.{case-whole}
+use Rattle.cut.specs.Cut.{cutBy, cut}
+use Rattle.sheet.specs.Sheet.{whole, caseAt, casesIn, refusalBytes, entryBytes, ruledIn, wholeCases, sheetRefusalOf, refusedWhole, ruledWhole, sheetOf}
+use Rattle.sheet.proofs.Turns.{whole-cut, whole-few}
 use Rattle.text.specs.Text.{letters, spelt, decimalOf}
 use Rattle.lines.specs.Lines.{header, endLine, sheetLine}
 use Rattle.lines.proofs.Lengths.{header-most, end-most, sheet-most}
@@ -47,7 +47,7 @@ use Rattle.filling.proofs.Answers.{number-told}
 use Rattle.lookups.proofs.Again.{filled-twice, refused-kept, case-good, fill-bytes, fill-facts}
 use Rattle.lookups.proofs.Filled.{filled-length, filled-outside}
 use Rattle.fillings.specs.Fillings.{fillSheetRefusalOf, filledCase, fillSheetOf}
-use Rattle.fillings.proofs.Laws.{refuses, filled-whole, sheet-as-long, case-filled}
+use Rattle.fillings.proofs.Laws.{refuses, whole-first, filled-whole, sheet-as-long, whole-filled, many-filled, case-filled}
 use Rattle.demands.specs.Ends.{fillSheetNumbers, SheetFilled, readNumbers, entryNumbers, fillNumbers, OneOf, Told, Answered, Ended, FillEnded, SheetAnswered, SheetEnded, Entered}
 
 -- ---- a row of tests gives 0 or one of its numbers
@@ -136,7 +136,7 @@ module _ (s : List ℕ) (room : ℕ) where
       (λ h. refused-whole number (other (10 ∷ 11 ∷ []) number sheet-told h))
 
 pub empty-sheet : (room : ℕ) → sheetOf [] room ≡ (record { refusal = 0; written = 0; ruled = 0; refused = 0 }, [])
-unfolding sheetOf sheetRefusalOf wholeCases row ruledIn
+unfolding sheetOf sheetRefusalOf wholeCases whole cut cutBy row ruledIn
 empty-sheet room = simp (le-leb 0 room zero-le)
 
 -- and written into the buffer
@@ -157,7 +157,7 @@ none-written s room =
     either (λ (a : SheetAnswer × List ℕ). (a .0 .refusal ≡ 0 → ⊥) → a .1 ≡ []) (eqb (sheetRefusalOf s room) 0) (ruledWhole s (casesIn s)) (refusedWhole (sheetRefusalOf s room))
     (λ h d. absurd (d refl)) (λ h d. refl)
 
--- ---- a case of a sheet has 88 bytes, so its number is not 1
+-- ---- a case of a sheet, by the number that reading it gives
 module _ (s : List ℕ) (k : ℕ) (within : k < casesIn s) where
   abbrev c : List ℕ
   c = caseAt s k
@@ -167,7 +167,7 @@ module _ (s : List ℕ) (k : ℕ) (within : k < casesIn s) where
 
   entry-told : Told entryNumbers n
   unfolding refusalOf
-  entry-told = rw (read-number c) (simp (eq-eqb (length c) 88 (case-whole s k within)) (told (byteTests c ++ factTests (factsOf c))))
+  entry-told = rw (read-number c) (told (formTests c ++ factTests (factsOf c)))
 
   abbrev As : List ℕ → Type 0
   As w = ((n ≡ 0) × (w ≡ answerOf (readingOf c .facts)) × (length w ≡ 96)) ⊎ (OneOf entryNumbers n × (w ≡ refusalBytes k n) × (length w ≡ 12))
@@ -190,14 +190,14 @@ module _ (s : List ℕ) where
   pub text-fits : length (textOf s) ≤ 65536
   unfolding textOf
   text-fits =
-      either (λ (t : List ℕ). length t ≤ 65536) (wholeCases s) _ _ (λ h. whole-fits (casesIn s) (omega (arith, whole-length s h))) (λ h. omega (arith, sheet-most 10))
+      either (λ (t : List ℕ). length t ≤ 65536) (wholeCases s) _ _ (λ h. whole-fits (casesIn s) (whole-few s h)) (λ h. omega (arith, sheet-most 10))
 
   pub header-first : wholeCases s ≡ true → (rest : List ℕ) × (textOf s ≡ header ++ rest)
   unfolding textOf
   header-first h = (row (lineOf s) (casesIn s) ++ endLine (ruledIn s (casesIn s)) (casesIn s - ruledIn s (casesIn s)), simp h (append-assoc header _ _))
 
 pub empty-report : textOf [] ≡ letters "TRADE OUTCOME REASON TP NEW ADJ NUL OLD FROM" ++ (10 ∷ []) ++ letters "END 0 0" ++ (10 ∷ [])
-unfolding textOf wholeCases header endLine row ruledIn decimalOf spelt
+unfolding textOf wholeCases whole cut cutBy header endLine row ruledIn decimalOf spelt
 empty-report = refl
 
 -- ---- a case filled
@@ -272,7 +272,7 @@ module _ (q s : List ℕ) where
     by-test : (b : Bool) → eqb (fillSheetRefusalOf q s) 0 ≡ b → SheetFilled q s (fillSheetOf q s .0) (fillSheetOf q s .1)
     by-test true h =
         let none = eqb-true (fillSheetRefusalOf q s) 0 h in
-        inl (sheet-number ∙ none, sheet-as-long q s, λ k within. case-filled q s k none within)
+        inl (sheet-number ∙ none, sheet-as-long q s, whole-filled q s none, many-filled q s none, case-filled q s none)
     by-test false h =
         let some = eqb-false (fillSheetRefusalOf q s) 0 h in
         inr (rw sheet-number (other fillSheetNumbers (fillSheetRefusalOf q s) sheet-refusal-told h), sym (refuses q s (fillSheetRefusalOf q s) refl some .1))
@@ -283,10 +283,11 @@ unfolding fillSheetRefusalOf wholeCases
 whole-twice q s good =
     let t = fillSheetOf q s .1 in
     let long : length t ≡ length s = sheet-as-long q s in
-    let number : fillSheetRefusalOf q t ≡ 0 = rw long good in
-    let count : casesIn t ≡ casesIn s = rw long in
+    let is : whole t ≡ whole s = whole-filled q s good ∙ sym (whole-cut s (whole-first q s good)) in
+    let number : fillSheetRefusalOf q t ≡ 0 = rw (is, long) good in
+    let count = many-filled q s good in
     let each : (k : ℕ) → k < casesIn s → filledCase q t k ≡ filledCase q s k
-    = λ k within. ap (λ (c : List ℕ). fillingOf q c .1) (case-filled q s k good within) ∙ ap (λ (p : ℕ × List ℕ). p .1) (filled-twice q (caseAt s k)) in
+    = λ k within. ap (λ (c : List ℕ). fillingOf q c .1) (case-filled q s good k within) ∙ ap (λ (p : ℕ × List ℕ). p .1) (filled-twice q (caseAt s k)) in
     filled-whole q t number ∙ ap (λ (w : List ℕ). (0, w)) (ap (row (filledCase q t)) count ∙ row-same (filledCase q t) (filledCase q s) (casesIn s) each) ∙ sym (filled-whole q s good)
 
 module _ (q s : List ℕ) where
