@@ -1,13 +1,13 @@
 -- A case in its sheet's bytes; and two sheets whose bytes differ in one case only, after its head: the other is cut at the same places.
-use Prim.Native.Nat.{ℕ, zero, suc, _+_, _≤_, _<_}
-use mathlib.Core.Path.{_≡_, refl, sym, ap, _∙_}
+use Prim.Native.Nat.{ℕ, suc, _+_, _≤_, _<_}
+use mathlib.Core.Path.{_≡_, sym, ap, _∙_}
 use mathlib.Core.List.{List, [], _∷_, _++_, append-assoc}
 use native.Mathlib.Omega.{arith}
 use lib.ListN.{length, take, drop, getD, set, length-append, length-take, length-drop, length-set, take-append-drop, List·getD-append}
 use lib.Seq.{ext-getD, getD-take, getD-drop, getD-append-add, getD-set-same, getD-set-other, drop-drop, set-split, set-getD, take-append-seam, drop-append-seam, drop-append-add, length-take-le}
 use lib.Dec.{eqb}
 use Rattle.wire.specs.Numbers.{numberAt}
-use Rattle.cut.specs.Cut.{IsCase, Pieces, cut, casesIn, caseAt, whole, together, startOf, SameButIn}
+use Rattle.cut.specs.Cut.{IsCase, Parts, cut, casesIn, caseAt, whole, together, startOf, SameButIn}
 use Rattle.cut.proofs.First.{case-low}
 use Rattle.cut.proofs.Cut.{cut-joins, cut-each, cut-onto}
 use Rattle.cut.proofs.Laws.{together-append, set-each, case-is}
@@ -119,18 +119,18 @@ module _ (s t : List ℕ) (j : ℕ) (l : j < casesIn s) (a : SameButIn s t j) wh
 
   pub alike-whole : whole t ≡ whole s
   unfolding whole
-  alike-whole = ap (λ (p : Pieces). eqb (length (p .left)) 0) cut-set
+  alike-whole = ap (λ (p : Parts). eqb (length (p .left)) 0) cut-set
 
   pub alike-many : casesIn t ≡ casesIn s
-  alike-many = ap (λ (p : Pieces). length (p .cases)) cut-set ∙ length-set (cut s .cases) j d
+  alike-many = ap (λ (p : Parts). length (p .cases)) cut-set ∙ length-set (cut s .cases) j d
 
   pub alike-else : (k : ℕ) → (k ≡ j → ⊥) → caseAt t k ≡ caseAt s k
   unfolding caseAt
-  alike-else k h = ap (λ (p : Pieces). getD (p .cases) k []) cut-set ∙ getD-set-other (cut s .cases) j k d [] h
+  alike-else k h = ap (λ (p : Parts). getD (p .cases) k []) cut-set ∙ getD-set-other (cut s .cases) j k d [] h
 
   alike-there : caseAt t j ≡ d
   unfolding caseAt
-  alike-there = ap (λ (p : Pieces). getD (p .cases) j []) cut-set ∙ getD-set-same (cut s .cases) j d [] l
+  alike-there = ap (λ (p : Parts). getD (p .cases) j []) cut-set ∙ getD-set-same (cut s .cases) j d [] l
 
   -- case j of t is as long, and its bytes are those of t from the same place on
   pub alike-long : length (caseAt t j) ≡ length (caseAt s j)

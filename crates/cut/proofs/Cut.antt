@@ -1,14 +1,14 @@
 -- Cutting: its two equations, and that it undoes putting cases one after the other.
-use Prim.Native.Nat.{ℕ, zero, suc, _+_, _*_, _≤_, _<_}
+use Prim.Native.Nat.{ℕ, zero, suc, _+_, _*_, _≤_}
 use mathlib.Core.Path.{_≡_, refl, sym, ap, _∙_}
 use mathlib.Core.Bool.{Bool, true, false}
 use mathlib.Core.List.{List, [], _∷_, _++_, append-assoc, append-nil}
 use native.Mathlib.Omega.{arith}
-use lib.ListN.{length, take, drop, length-drop, length-append, take-append-drop}
+use lib.ListN.{length, take, drop, length-drop, take-append-drop}
 use lib.Seq.{take-append-seam, drop-append-seam}
 use lib.Dec.{eqb}
 use borrow.Author.Tests.{eq-eqb, ne-eqb, eqb-true, eqb-false}
-use Rattle.cut.specs.Cut.{IsCase, caseLength, Pieces, uncut, before, cutBy, cut, whole, together, AllCases}
+use Rattle.cut.specs.Cut.{caseLength, uncut, before, cutBy, cut, together, AllCases}
 use Rattle.cut.proofs.First.{first, length-le, case-low, case-first, first-is}
 
 -- ---- the equations under a bound
@@ -75,7 +75,7 @@ cut-each s =
     (λ s e h. rw (cut-more s e) (first-is s (first s e), h))
     (length s) s (omega arith)
 
--- cases one after the other, and then any bytes: those cases, and then the pieces of the rest
+-- cases one after the other, and then any bytes: those cases, and then the parts of the rest
 pub cut-after : (cs : List (List ℕ)) (r : List ℕ) → AllCases cs → cut (together cs ++ r) ≡ record { cases = cs ++ cut r .cases; left = cut r .left }
 cut-after [] r h = refl
 cut-after (c ∷ cs) r h =

@@ -7,10 +7,10 @@ use native.Mathlib.Nat.{zero-mul, suc-mul, add-comm}
 use native.Mathlib.Omega.{arith}
 use lib.ListN.{length, take, drop, getD, set, length-append, length-set, List·getD-append}
 use lib.Seq.{getD-set-same, getD-set-other, take-at, drop-append-add, getD-append-add}
-use lib.Dec.{eqb, ltb}
+use lib.Dec.{ltb}
 use borrow.Author.Tests.{eqb-true, ltb-true, ltb-false}
 use Rattle.wire.specs.Laid.{row}
-use Rattle.cut.specs.Cut.{IsCase, Pieces, cut, casesIn, caseAt, whole, together, AllCases}
+use Rattle.cut.specs.Cut.{IsCase, Parts, cut, casesIn, caseAt, whole, together, AllCases}
 use Rattle.cut.proofs.Cut.{cut-joins, cut-each, cut-after, cut-back}
 
 pub together-append : (cs ds : List (List ℕ)) → together (cs ++ ds) ≡ together cs ++ together ds
@@ -35,7 +35,7 @@ module _ (cs : List (List ℕ)) (each : AllCases cs) where
   back-whole = rw (cut-back cs each)
 
   pub back-cases : cut (together cs) .cases ≡ cs
-  back-cases = ap (λ (p : Pieces). p .cases) (cut-back cs each)
+  back-cases = ap (λ (p : Parts). p .cases) (cut-back cs each)
 
 -- a whole sheet and another one after it are the cases of both
 pub two-sheets : (s t : List ℕ) → whole s ≡ true → cut (s ++ t) ≡ record { cases = cut s .cases ++ cut t .cases; left = cut t .left }
@@ -139,8 +139,8 @@ module _ (f : ℕ → List ℕ) where
     row-whole = rw row-cut
 
     pub row-many : casesIn (row f n) ≡ n
-    row-many = ap (λ (p : Pieces). length (p .cases)) row-cut ∙ listed-long n
+    row-many = ap (λ (p : Parts). length (p .cases)) row-cut ∙ listed-long n
 
     pub row-case : (k : ℕ) → k < n → caseAt (row f n) k ≡ f k
     unfolding caseAt
-    row-case k l = ap (λ (p : Pieces). getD (p .cases) k []) row-cut ∙ listed-at n k l
+    row-case k l = ap (λ (p : Parts). getD (p .cases) k []) row-cut ∙ listed-at n k l

@@ -11,14 +11,14 @@ use lib.Seq.{drop-drop, drop-cons, take-all, take-length, take-suc, length-take-
 use lib.Dec.{eqb, ltb}
 use borrow.Author.Tests.{eq-eqb, ne-eqb, eqb-true, eqb-false, ltb-true, ltb-false, lt-ltb}
 use Rattle.wire.proofs.Tests.{both-true}
-use Rattle.cut.specs.Cut.{caseLength, Pieces, uncut, before, cut, casesIn, caseAt, whole, together, startOf}
+use Rattle.cut.specs.Cut.{caseLength, Parts, uncut, cut, casesIn, caseAt, whole, together, startOf}
 use Rattle.cut.proofs.First.{first, length-le}
 use Rattle.cut.proofs.Cut.{cut-end, cut-more}
 use Rattle.cut.proofs.Laws.{together-append, whole-joins}
 
--- pieces go by their two parts
-pieces : (p : Pieces) (cs : List (List ℕ)) (l : List ℕ) → p .cases ≡ cs → p .left ≡ l → p ≡ record { cases = cs; left = l }
-pieces p cs l e f = rw (← e, ← f) refl
+-- what was cut goes by its two parts
+by-parts : (p : Parts) (cs : List (List ℕ)) (l : List ℕ) → p .cases ≡ cs → p .left ≡ l → p ≡ record { cases = cs; left = l }
+by-parts p cs l e f = rw (← e, ← f) refl
 
 -- two tests that say the same
 same-test : (a b c d : ℕ) → (a ≡ b → c ≡ d) → (c ≡ d → a ≡ b) → eqb a b ≡ eqb c d
@@ -66,7 +66,7 @@ module _ (s : List ℕ) (i from : ℕ) (a : At s i from) where
 
   module _ (h : caseLength (drop from s) ≡ 0 → ⊥) where
     ahead : drop i (cut s .cases) ≡ take (caseLength (drop from s)) (drop from s) ∷ cut (drop (from + caseLength (drop from s)) s) .cases
-    ahead = ap (λ (p : Pieces). p .cases) (sym (a .here) ∙ cut-more (drop from s) h) ∙ rw drop-drop refl
+    ahead = ap (λ (p : Parts). p .cases) (sym (a .here) ∙ cut-more (drop from s) h) ∙ rw drop-drop refl
 
     pub at-comes : i < casesIn s
     at-comes = omega (arith, ap length ahead, length-drop i (cut s .cases))
@@ -87,18 +87,18 @@ module _ (s : List ℕ) (i from : ℕ) (a : At s i from) where
         let f = first (drop from s) h in
         let e = split in
         let tails : cut (drop (from + caseLength (drop from s)) s) .cases ≡ drop (suc i) (cut s .cases) = cc in
-        let ends : cut (drop (from + caseLength (drop from s)) s) .left ≡ cut s .left = rw (← drop-drop) (ap (λ (p : Pieces). p .left) (sym (cut-more (drop from s) h) ∙ a .here)) in
+        let ends : cut (drop (from + caseLength (drop from s)) s) .left ≡ cut s .left = rw (← drop-drop) (ap (λ (p : Parts). p .left) (sym (cut-more (drop from s) h) ∙ a .here)) in
         record {
           start = rw add-one (omega (arith, a .start, start-next s i at-comes, case-long));
           inside = at-fits;
           few = omega (arith, a .few, f .size, f .low);
           within = omega (arith, at-comes);
-          here = rw add-one (pieces (cut (drop (from + caseLength (drop from s)) s)) (drop (suc i) (cut s .cases)) (cut s .left) tails ends);
+          here = rw add-one (by-parts (cut (drop (from + caseLength (drop from s)) s)) (drop (suc i) (cut s .cases)) (cut s .left) tails ends);
         }
 
   -- where cases are left, one comes next
   pub at-more : i < casesIn s → caseLength (drop from s) ≡ 0 → ⊥
-  at-more l e = omega (arith, ap (λ (p : Pieces). length (p .cases)) (sym (cut-end (drop from s) e) ∙ a .here), length-drop i (cut s .cases))
+  at-more l e = omega (arith, ap (λ (p : Parts). length (p .cases)) (sym (cut-end (drop from s) e) ∙ a .here), length-drop i (cut s .cases))
 
   -- at the end of a whole sheet nothing is left
   pub at-end : i ≡ casesIn s → whole s ≡ true → from ≡ length s
@@ -110,10 +110,10 @@ module _ (s : List ℕ) (i from : ℕ) (a : At s i from) where
     over = sym (cut-end (drop from s) e) ∙ a .here
 
     pub at-all : i ≡ casesIn s
-    at-all = omega (arith, ap (λ (p : Pieces). length (p .cases)) over, length-drop i (cut s .cases), a .within)
+    at-all = omega (arith, ap (λ (p : Parts). length (p .cases)) over, length-drop i (cut s .cases), a .within)
 
     left-long : length (cut s .left) ≡ length s - from
-    left-long = ap (λ (p : Pieces). length (p .left)) (sym over) ∙ length-drop from s
+    left-long = ap (λ (p : Parts). length (p .left)) (sym over) ∙ length-drop from s
 
     pub at-whole : eqb from (length s) ≡ whole s
     unfolding whole

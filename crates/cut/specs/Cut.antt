@@ -18,23 +18,23 @@ unfoldable pub caseLength : List ℕ → ℕ
 caseLength s = pick (begins s) (sizeIn s) 0
 
 -- ---- cut as far as there are cases, and what is left
-pub record Pieces : Type 0 where
+pub record Parts : Type 0 where
   pub cases : List (List ℕ)
   pub left : List ℕ
 
-abbrev pub uncut : List ℕ → Pieces
+abbrev pub uncut : List ℕ → Parts
 uncut s = record { cases = []; left = s }
 
-abbrev pub before : List ℕ → Pieces → Pieces
+abbrev pub before : List ℕ → Parts → Parts
 before c p = record { cases = c ∷ p .cases; left = p .left }
 
--- the first case, then the pieces of the rest; the first argument only bounds the number of cases
-unfoldable pub cutBy : ℕ → List ℕ → Pieces
+-- the first case, then the parts of the rest; the first argument only bounds the number of cases
+unfoldable pub cutBy : ℕ → List ℕ → Parts
 cutBy zero s = uncut s
 cutBy (suc n) s = pick (eqb (caseLength s) 0) (uncut s) (before (take (caseLength s) s) (cutBy n (drop (caseLength s) s)))
 
 -- no case is empty: there are at most as many as bytes
-unfoldable pub cut : List ℕ → Pieces
+unfoldable pub cut : List ℕ → Parts
 cut s = cutBy (length s) s
 
 abbrev pub casesIn : List ℕ → ℕ

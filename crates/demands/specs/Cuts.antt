@@ -5,7 +5,7 @@ use mathlib.Core.Bool.{true, false}
 use mathlib.Core.List.{List, [], _∷_, _++_}
 use lib.ListN.{replicate}
 use Rattle.wire.specs.Numbers.{numberAt}
-use Rattle.cut.specs.Heads.{pairs, known}
+use Rattle.forms.specs.Heads.{pairs, known}
 use Rattle.cut.specs.Cut.{begins, caseLength, cutBy, cut, casesIn, whole, startOf}
 use Rattle.sheet.specs.Sheet.{wholeCases, sheetRefusalOf}
 

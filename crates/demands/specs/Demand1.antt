@@ -12,7 +12,9 @@ use lib.Dec.{leb}
 use contract.Lifetimes.{Lfts}
 use denote.Ref.{RefT, now}
 use Rattle.wire.specs.Laid.{laid}
+use Rattle.forms.specs.Forms.{formLength}
 use Rattle.record.specs.Record.{factsOf, recordBytes}
+use Rattle.record.proofs.Lengths.{long-as-form}
 use Rattle.refusals.specs.Tests.{formTests, factTests}
 use Rattle.cases.specs.Words.{Facts}
 use Rattle.cases.specs.declared.Reading.{Reading}
@@ -49,8 +51,8 @@ pub nothing-asked : (κ : Lfts 1) (κs : Lfts 2) (s b : RefT (List ℕ)) (f : Fa
     × desk.desk_print_sheet.Reads.Asked κs (s, (b, tt))
 nothing-asked κ κs s b f = (tt, tt, tt, tt, tt, tt, tt, tt, tt, tt)
 
--- Below them the ruling asks for the 88 bytes of a case, accepted or not, and for nothing else.
-pub rule-asks : (κ : Lfts 1) (s : RefT (List ℕ)) → length (now s) ≡ 88 → ruling.rule.Reads.Asked κ (s, tt)
+-- Below them the ruling asks for the 88 bytes that every kind of case has, accepted or not, and for nothing else.
+pub rule-asks : (κ : Lfts 1) (s : RefT (List ℕ)) → 88 ≤ length (now s) → ruling.rule.Reads.Asked κ (s, tt)
 rule-asks κ s h = h
 
 -- ---- a case read
@@ -73,15 +75,17 @@ module _ (κ : Lfts 1) (s s' : RefT (List ℕ)) where
 
 -- ---- a case written
 
--- Any facts are written in 88 bytes, or refused with 11 or 4 to 9 and nothing is written.
-pub write-answered : (f : Facts) (room : ℕ) → Answered 88 writeNumbers room (writingOf f room)
+-- Any facts are written in the bytes of their form, or refused with 11 or 4 to 9 and nothing is written.
+pub write-answered : (f : Facts) (room : ℕ) → Answered (formLength (f .form)) writeNumbers room (writingOf f room)
 unfolding writingOf writeRefusalOf
-write-answered f room = why.answered 88 room writeNumbers _ (recordBytes f) (why.told ((11, leb 88 room) ∷ factTests f)) (why.write-fits f room) (why.record-length f)
+write-answered f room =
+    let size = formLength (f .form) in
+    why.answered size room writeNumbers _ (recordBytes f) (why.told ((11, leb size room) ∷ factTests f)) (why.write-fits f room) (long-as-form (f .form) f)
 
 -- So every call of `write_case`.
 pub write-case-ends : (κ : Lfts 1) (f f' : Facts) (out out' : RefT (List ℕ)) (r : ℕ)
-    → cases.write_case.Reads.Post κ (f, (out, tt)) r (f', (out', tt)) → Ended 88 writeNumbers r (now out) (now out')
-write-case-ends κ f f' out out' r p = why.ended 88 writeNumbers _ r _ _ (write-answered f (length (now out))) (p .0, p .1)
+    → cases.write_case.Reads.Post κ (f, (out, tt)) r (f', (out', tt)) → Ended (formLength (f .form)) writeNumbers r (now out) (now out')
+write-case-ends κ f f' out out' r p = why.ended (formLength (f .form)) writeNumbers _ r _ _ (write-answered f (length (now out))) (p .0, p .1)
 
 -- ---- a case ruled
 
@@ -118,7 +122,7 @@ module _ (κs : Lfts 2) (s s' out out' : RefT (List ℕ)) where
 pub empty-sheet : (room : ℕ) → sheetOf [] room ≡ (record { refusal = 0; written = 0; ruled = 0; refused = 0 }, [])
 empty-sheet = why.empty-sheet
 
--- Each case of a sheet gets the 96 bytes of its answer or, where it is bad, one refusal record of 12 bytes, with its index and one of 1 to 9.
+-- Each case of a sheet gets the 96 bytes of its answer or, where it is bad, one refusal record of 12 bytes, with its index and one of 3 to 9.
 pub entries : (s : List ℕ) (k : ℕ) → k < casesIn s → Entered s k
 entries = why.entered
 

@@ -48,7 +48,7 @@ module _ (κ : Lfts 1) (s s' : RefT (List ℕ)) where
   pub desk-check-case-says : (r : ℕ) → desk.desk_check_case.Reads.Post κ (s, tt) r (s', tt) → r ≡ refusalOf (now s)
   desk-check-case-says r p = p
 
-  -- The facts that 88 of them say are ruled by the steps of a ruling.
+  -- The facts that they say are ruled by the steps of a ruling.
   pub rule-says : (r : Ruling) → ruling.rule.Reads.Post κ (s, tt) r (s', tt) → r ≡ rulingOf (factsOf (now s))
   rule-says r p = p .0
 

@@ -17,6 +17,7 @@ use Rattle.wire.specs.Numbers.{stored, numberAt}
 use Rattle.wire.specs.Tests.{inRange}
 use Rattle.facts.specs.Numbers.{priceNumber, priceOf, momentOf}
 use Rattle.codes.specs.Codes.{sideOf, kindOf, dayOf, agreementOf, flagOf}
+use Rattle.forms.specs.Forms.{formOf}
 use Rattle.record.specs.Record.{tradeOf, marketOf, requestOf, partyAt, settlementOf, factsOf}
 use Rattle.refusals.specs.Tests.{headOk, zerosOk, listsOk, codesOk, codeOk, codeByteOk, pricesOk, quotesPriced, countsOk, timesOk, limitsOk}
 use Rattle.bands.specs.Table.{bandOf}
@@ -38,7 +39,7 @@ use Rattle.alike.specs.Cases.{codeIn, AlikeBut, UntoldBytes, Blind}
 use Rattle.answer.proofs as answer
 use Rattle.alike.proofs.Cases as bytes
 use Rattle.sheet.specs.declared.SheetAnswer.{SheetAnswer}
-use Rattle.cut.specs.Heads.{pairs, known}
+use Rattle.forms.specs.Heads.{pairs, known, isLength}
 use Rattle.cut.specs.Cut.{begins, caseLength, cutBy, cut}
 use Rattle.sheet.specs.Sheet.{caseAt, startOf, sheetOf}
 use Rattle.alike.specs.Sheets.{AlikeButOne, OnlyCase}
@@ -117,7 +118,7 @@ abbrev otherBuyer : List ℕ
 otherBuyer = stored goodCase 48 (67 ∷ 68 ∷ 51 ∷ 52 ∷ [])
 
 pub alike-sheets : AlikeButOne Buy goodCase otherBuyer 0
-unfolding pairs known begins caseLength cutBy cut caseAt startOf readingOf refusalOf headOk zerosOk listsOk codesOk codeOk codeByteOk pricesOk quotesPriced countsOk timesOk limitsOk inRange numberAt factsOf tradeOf marketOf requestOf partyAt settlementOf priceOf momentOf sideOf kindOf dayOf agreementOf flagOf testedIn bandOf inError movedBy wayOf obviousOpen openingOpen catastrophicOpen theoryOf heededOf inTime testedAt
+unfolding pairs known begins caseLength cutBy cut caseAt startOf readingOf refusalOf headOk zerosOk listsOk codesOk codeOk codeByteOk pricesOk quotesPriced countsOk timesOk limitsOk inRange numberAt factsOf tradeOf marketOf requestOf partyAt settlementOf priceOf momentOf sideOf kindOf dayOf agreementOf flagOf testedIn bandOf inError movedBy wayOf obviousOpen openingOpen catastrophicOpen theoryOf heededOf inTime testedAt isLength formOf
 alike-sheets =
     record {
       long = refl;

@@ -8,8 +8,11 @@ use Rattle.wire.specs.Numbers.{numberAt}
 use Rattle.wire.specs.Tests.{inRange}
 use Rattle.facts.specs.Numbers.{mills, contracts, seconds, priceNumber, priceOf, momentOf}
 use Rattle.codes.specs.Codes.{sideOf, kindOf, dayOf, agreementOf, flagOf}
+use Rattle.forms.specs.Words.{One}
 use Rattle.ruling.specs.Words.{Price, At, None, Moment, After, Never, Side, Buy, Sell, Kind, Customer, MarketMaker, Day, TradeDate, Later, NotMade, Quote, Market, Facts}
 use Rattle.ruling.specs.declared.Counts.{Counts}
+use Rattle.forms.specs.Heads.{pairs, isLength, known}
+use Rattle.forms.specs.Forms.{formOf}
 use Rattle.record.specs.Record.{tradeOf, marketOf, requestOf, partyAt, settlementOf, factsOf, recordBytes}
 use Rattle.refusals.specs.Tests.{headOk, zerosOk, listsOk, faultOf, codesOk, codeOk, codeByteOk, pricesOk, quotesPriced, countsOk, timesOk, limitsOk}
 use Rattle.bands.specs.Table.{bandOf}
@@ -37,6 +40,7 @@ market Sell q = record { bid = quoted q; offer = quoted None; official = None }
 abbrev case : Side → Price → ℕ → Kind → Day → ℕ → Price → Moment → Facts
 case side quote execution buyer day after limit accepted =
     record {
+      form = One;
       trade = record { number = 1; price = mills execution; contracts = contracts 10; executed = seconds 34200 };
       market = market side quote;
       request = record { side = side; opening = false; expiry = false; decided = false; day = day; filed = seconds (34200 + after) };
@@ -173,5 +177,5 @@ expected e = (
 )
 
 pub edges-answered : map given edges ≡ map expected edges
-unfolding faultOf codesOk codeOk codeByteOk pricesOk quotesPriced countsOk timesOk limitsOk inRange bandOf inError movedBy obviousAdjustmentOf wayOf obviousOpen openingOpen catastrophicOpen theoryOf heededOf inTime mayNullify openingTested openingStopped catastrophicStopped obviousAct openingAct catastrophicAct actOf ruledAt ruledOn ruledBy rulingOf caseOf caseRefusalOf headOk zerosOk listsOk numberAt factsOf tradeOf marketOf requestOf partyAt settlementOf priceOf momentOf sideOf kindOf dayOf agreementOf flagOf answerOf rulingRecord shows shownCode noticeRecord answerRecords
+unfolding faultOf codesOk codeOk codeByteOk pricesOk quotesPriced countsOk timesOk limitsOk inRange bandOf inError movedBy obviousAdjustmentOf wayOf obviousOpen openingOpen catastrophicOpen theoryOf heededOf inTime mayNullify openingTested openingStopped catastrophicStopped obviousAct openingAct catastrophicAct actOf ruledAt ruledOn ruledBy rulingOf caseOf caseRefusalOf headOk zerosOk listsOk numberAt factsOf tradeOf marketOf requestOf partyAt settlementOf priceOf momentOf sideOf kindOf dayOf agreementOf flagOf answerOf rulingRecord shows shownCode noticeRecord answerRecords isLength known pairs formOf
 edges-answered = refl

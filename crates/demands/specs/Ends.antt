@@ -26,9 +26,9 @@ writeNumbers = 11 ∷ 4 ∷ 5 ∷ 6 ∷ 7 ∷ 8 ∷ 9 ∷ []
 abbrev pub caseNumbers : List ℕ
 caseNumbers = 1 ∷ 11 ∷ 2 ∷ 3 ∷ 4 ∷ 5 ∷ 6 ∷ 7 ∷ 8 ∷ 9 ∷ []
 
--- a case of a sheet: 1 to 9
+-- a case of a sheet: 3 to 9 (1 and 2 cannot arise: a sheet is cut by what these test, or refused 10 whole)
 abbrev pub entryNumbers : List ℕ
-entryNumbers = 1 ∷ 2 ∷ 3 ∷ 4 ∷ 5 ∷ 6 ∷ 7 ∷ 8 ∷ 9 ∷ []
+entryNumbers = 3 ∷ 4 ∷ 5 ∷ 6 ∷ 7 ∷ 8 ∷ 9 ∷ []
 
 -- the quotes and a trade's time: 20 to 23
 abbrev pub quoteNumbers : List ℕ
@@ -99,7 +99,7 @@ SheetFilled q s n after =
     × ((k : ℕ) → k < casesIn s → caseAt after k ≡ fillingOf q (caseAt s k) .1))
     ⊎ (OneOf fillSheetNumbers n × (after ≡ s))
 
--- Case k of a sheet: accepted, its entry is the 96 bytes of its answer; or refused with one of 1 to 9, its entry is the refusal record of 12
+-- Case k of a sheet: accepted, its entry is the 96 bytes of its answer; or refused with one of 3 to 9, its entry is the refusal record of 12
 -- bytes with its index and number.
 abbrev pub Entered : List ℕ → ℕ → Type 0
 Entered s k =

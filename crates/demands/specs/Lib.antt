@@ -6,6 +6,7 @@ pub mod RoundTrips
 pub mod Demand3
 pub mod Laws
 pub mod Origins
+pub mod Kinds
 pub mod Sheets
 pub mod Cuts
 pub mod Pieces

@@ -9,6 +9,7 @@ use Rattle.wire.specs.Numbers.{bytes, stored, numberAt}
 use Rattle.wire.specs.Tests.{inRange}
 use Rattle.facts.specs.Numbers.{priceOf, momentOf}
 use Rattle.codes.specs.Codes.{sideOf, kindOf, dayOf, agreementOf, flagOf}
+use Rattle.forms.specs.Forms.{formOf}
 use Rattle.record.specs.Record.{tradeOf, marketOf, requestOf, partyAt, settlementOf, factsOf}
 use Rattle.refusals.specs.Tests.{headOk, zerosOk, listsOk, codesOk, codeOk, codeByteOk, pricesOk, quotesPriced, countsOk, timesOk, limitsOk}
 use Rattle.cases.specs.Cases.{refusalOf, accepted, refused, readingOf, writeRefusalOf, writingOf}
@@ -22,7 +23,7 @@ use Rattle.act.specs.Act.{obviousAct, openingAct, actOf}
 use Rattle.ruling.specs.Ruling.{ruledAt, ruledOn, ruledBy, rulingOf}
 use Rattle.notices.specs.Records.{rulingRecord, shows, shownCode, noticeRecord, answerRecords}
 use Rattle.answer.specs.Answer.{caseRefusalOf, answerOf, caseOf}
-use Rattle.cut.specs.Heads.{pairs, known}
+use Rattle.forms.specs.Heads.{pairs, known, isLength}
 use Rattle.cut.specs.Cut.{begins, caseLength, cutBy, cut}
 use Rattle.sheet.specs.Sheet.{whole, caseAt, refusalBytes, entryBytes, ruledOne, ruledIn, wholeCases, sheetRefusalOf, sheetOf}
 use Rattle.specimen.specs.Good.{goodCase}
@@ -40,17 +41,17 @@ goodAnswer =
 
 -- It is accepted.
 pub good-accepted : readingOf goodCase ≡ accepted (factsOf goodCase)
-unfolding readingOf refusalOf headOk zerosOk listsOk codesOk codeOk codeByteOk pricesOk quotesPriced countsOk timesOk limitsOk inRange numberAt factsOf tradeOf marketOf requestOf partyAt settlementOf priceOf momentOf sideOf kindOf dayOf agreementOf flagOf
+unfolding readingOf refusalOf headOk zerosOk listsOk codesOk codeOk codeByteOk pricesOk quotesPriced countsOk timesOk limitsOk inRange numberAt factsOf tradeOf marketOf requestOf partyAt settlementOf priceOf momentOf sideOf kindOf dayOf agreementOf flagOf isLength known pairs formOf
 good-accepted = refl
 
 -- Its facts are written back in 88 bytes, and they are the record's.
 pub good-written : writingOf (factsOf goodCase) 88 ≡ (0, goodCase)
-unfolding writingOf writeRefusalOf codesOk codeOk codeByteOk pricesOk quotesPriced countsOk timesOk limitsOk inRange numberAt factsOf tradeOf marketOf requestOf partyAt settlementOf priceOf momentOf sideOf kindOf dayOf agreementOf flagOf
+unfolding writingOf writeRefusalOf codesOk codeOk codeByteOk pricesOk quotesPriced countsOk timesOk limitsOk inRange numberAt factsOf tradeOf marketOf requestOf partyAt settlementOf priceOf momentOf sideOf kindOf dayOf agreementOf flagOf formOf
 good-written = refl
 
 -- It is ruled in these 96 bytes.
 pub good-ruled : caseOf goodCase 96 ≡ (0, goodAnswer)
-unfolding caseOf caseRefusalOf headOk zerosOk listsOk codesOk codeOk codeByteOk pricesOk quotesPriced countsOk timesOk limitsOk inRange numberAt factsOf tradeOf marketOf requestOf partyAt settlementOf priceOf momentOf sideOf kindOf dayOf agreementOf flagOf bandOf inError movedBy obviousAdjustmentOf wayOf obviousOpen openingOpen catastrophicOpen theoryOf heededOf inTime mayNullify obviousAct actOf ruledAt ruledOn ruledBy rulingOf rulingRecord shows shownCode noticeRecord answerRecords answerOf
+unfolding caseOf caseRefusalOf headOk zerosOk listsOk codesOk codeOk codeByteOk pricesOk quotesPriced countsOk timesOk limitsOk inRange numberAt factsOf tradeOf marketOf requestOf partyAt settlementOf priceOf momentOf sideOf kindOf dayOf agreementOf flagOf bandOf inError movedBy obviousAdjustmentOf wayOf obviousOpen openingOpen catastrophicOpen theoryOf heededOf inTime mayNullify obviousAct actOf ruledAt ruledOn ruledBy rulingOf rulingRecord shows shownCode noticeRecord answerRecords answerOf isLength known pairs formOf
 good-ruled = refl
 
 -- the same without contracts, which fails test 6
@@ -75,5 +76,5 @@ openingAnswer =
 -- A sheet of the three is ruled: 96 bytes for the first case, the refusal record for the second, 96 bytes for the third.
 pub good-sheet : sheetOf (goodCase ++ badCase ++ openingCase) 288
     ≡ (record { refusal = 0; written = 204; ruled = 2; refused = 1 }, goodAnswer ++ badAnswer ++ openingAnswer)
-unfolding pairs known begins caseLength cutBy cut whole sheetOf sheetRefusalOf wholeCases row entryBytes refusalBytes ruledOne ruledIn caseAt readingOf refused refusalOf headOk zerosOk listsOk codesOk codeOk codeByteOk pricesOk quotesPriced countsOk timesOk limitsOk inRange numberAt factsOf tradeOf marketOf requestOf partyAt settlementOf priceOf momentOf sideOf kindOf dayOf agreementOf flagOf bandOf inError movedBy obviousAdjustmentOf wayOf obviousOpen openingOpen catastrophicOpen theoryOf heededOf inTime mayNullify openingTested openingStopped obviousAct openingAct actOf ruledAt ruledOn ruledBy rulingOf rulingRecord shows shownCode noticeRecord answerRecords answerOf
+unfolding pairs known begins caseLength cutBy cut whole sheetOf sheetRefusalOf wholeCases row entryBytes refusalBytes ruledOne ruledIn caseAt readingOf refused refusalOf headOk zerosOk listsOk codesOk codeOk codeByteOk pricesOk quotesPriced countsOk timesOk limitsOk inRange numberAt factsOf tradeOf marketOf requestOf partyAt settlementOf priceOf momentOf sideOf kindOf dayOf agreementOf flagOf bandOf inError movedBy obviousAdjustmentOf wayOf obviousOpen openingOpen catastrophicOpen theoryOf heededOf inTime mayNullify openingTested openingStopped obviousAct openingAct actOf ruledAt ruledOn ruledBy rulingOf rulingRecord shows shownCode noticeRecord answerRecords answerOf isLength formOf
 good-sheet = refl

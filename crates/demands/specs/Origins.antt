@@ -43,11 +43,11 @@ use Rattle.demands.specs.Edges.{at, buy}
 pub none-exactly : (f : Facts) → Exactly (originOf (rulingOf f) ≡ 0) (tpOf (rulingOf f) ≡ None)
 none-exactly = origins.origin-none
 
--- It is 1 exactly where TP is the price of the side's quote: the offer's for a buy, the bid's for a sell.
+-- It is 1 exactly where TP is the price of the side's quote, the offer's for a buy, the bid's for a sell, and the quotes can be trusted.
 pub quote-exactly : (f : Facts) → Exactly (originOf (rulingOf f) ≡ 1) (OfQuote f (rulingOf f))
 quote-exactly = origins.origin-quote
 
--- It is 2 exactly where that quote is none and TP is the official's price.
+-- It is 2 exactly where that quote is none or the quotes are too wide to trust, and TP is the official's price.
 pub official-exactly : (f : Facts) → Exactly (originOf (rulingOf f) ≡ 2) (OfOfficial f (rulingOf f))
 official-exactly = origins.origin-official
 
@@ -125,6 +125,7 @@ quoted = buy 1999 2249
 abbrev official : Facts
 official =
     record {
+      form = quoted .form;
       trade = quoted .trade;
       market = record { bid = quoted .market .bid; offer = quoted .market .bid; official = at 1999 };
       request = quoted .request;

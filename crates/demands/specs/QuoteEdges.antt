@@ -9,6 +9,8 @@ use Rattle.facts.specs.declared.Price.the-variants.{At}
 use Rattle.facts.specs.declared.Quote.{Quote}
 use Rattle.facts.specs.Numbers.{mills, contracts, priceOf, momentOf}
 use Rattle.codes.specs.Codes.{sideOf, kindOf, dayOf, agreementOf, flagOf}
+use Rattle.forms.specs.Heads.{pairs, isLength, known}
+use Rattle.forms.specs.Forms.{formOf}
 use Rattle.record.specs.Record.{tradeOf, marketOf, requestOf, partyAt, settlementOf, factsOf}
 use Rattle.refusals.specs.Tests.{headOk, zerosOk, listsOk, codesOk, codeOk, codeByteOk, pricesOk, quotesPriced, countsOk, timesOk, limitsOk}
 use Rattle.cases.specs.Cases.{refusalOf}
@@ -96,7 +98,7 @@ twenty-three = refl
 
 -- The good record (`specimen`) is filled by its own execution time, 34,200: bytes 20 to 35, and no other.
 pub good-filled : fillingOf (post 1 34199 500 700 3 1 ++ post 2 34200 600 650 4 2) goodCase ≡ (0, stored goodCase 20 (bytes 4 500 ++ bytes 4 700 ++ bytes 4 3 ++ bytes 4 1))
-unfolding fillingOf fillRefusalOf filled refusalOf headOk zerosOk listsOk codesOk codeOk codeByteOk pricesOk quotesPriced countsOk timesOk limitsOk factsOf tradeOf marketOf requestOf partyAt settlementOf momentOf sideOf kindOf dayOf agreementOf flagOf foundOf foundIn quotesRefusalOf wholeQuotes isQuote sideOk fieldsOk recordOk recordsOk risingFrom postedAt postedFrom earlier lastOf lastsFrom bestPrice sizeIf sizeAt bestOf numberAt priceOf inRange
+unfolding fillingOf fillRefusalOf filled refusalOf headOk zerosOk listsOk codesOk codeOk codeByteOk pricesOk quotesPriced countsOk timesOk limitsOk factsOf tradeOf marketOf requestOf partyAt settlementOf momentOf sideOf kindOf dayOf agreementOf flagOf foundOf foundIn quotesRefusalOf wholeQuotes isQuote sideOk fieldsOk recordOk recordsOk risingFrom postedAt postedFrom earlier lastOf lastsFrom bestPrice sizeIf sizeAt bestOf numberAt priceOf inRange isLength known pairs formOf
 good-filled = refl
 
 -- ---- how many quotes are read (RULE R16.22), with the number of quotes before the trade

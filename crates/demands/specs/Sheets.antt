@@ -24,16 +24,16 @@ use Rattle.desk.proofs as desk
 
 -- ---- cutting
 
--- Where no case comes first, nothing is cut; else the first case comes before the pieces of the rest.
+-- Where no case comes first, nothing is cut; else the first case comes before the parts of the rest.
 pub cut-end : (s : List ℕ) → caseLength s ≡ 0 → cut s ≡ uncut s
 cut-end = cutting.cut-end
 
 pub cut-more : (s : List ℕ) → (caseLength s ≡ 0 → ⊥) → cut s ≡ before (take (caseLength s) s) (cut (drop (caseLength s) s))
 cut-more = cutting.cut-more
 
--- The pieces are cases, and with what is left they are the bytes.
-pub pieces : (s : List ℕ) → AllCases (cut s .cases) × (together (cut s .cases) ++ cut s .left ≡ s)
-pieces s = (cutting.cut-each s, cutting.cut-joins s)
+-- What is cut off are cases, and with what is left they are the bytes.
+pub parts : (s : List ℕ) → AllCases (cut s .cases) × (together (cut s .cases) ++ cut s .left ≡ s)
+parts s = (cutting.cut-each s, cutting.cut-joins s)
 
 pub case-is : (s : List ℕ) (k : ℕ) → k < casesIn s → IsCase (caseAt s k)
 case-is = laws.case-is

@@ -1,28 +1,30 @@
 -- Why demand 1 and the law of reordering hold: what a row of tests gives back, and what the definitions make of it. Nothing is promised here.
 use Prim.Native.Nat.{ℕ, _-_, _*_, _≤_, _<_, zero-le}
 use mathlib.Core.Path.{_≡_, refl, sym, ap, subst, _∙_}
-use mathlib.Core.Bool.{Bool, true, false}
+use mathlib.Core.Bool.{Bool, true, false, _&&_}
 use mathlib.Core.Logic.{_⊎_, inl, inr}
 use mathlib.Core.List.{List, [], _∷_, _++_, append-assoc}
 use native.Mathlib.Omega.{arith}
 use lib.ListN.{length, take, drop, length-append}
 use lib.Seq.{take-at, take-append-seam}
 use lib.Dec.{leb, eqb}
-use borrow.Author.Tests.{leb-true, le-leb, eq-eqb, eqb-true, eqb-false}
+use borrow.Author.Tests.{leb-true, le-leb, eqb-true, eqb-false}
 use Rattle.wire.specs.Laid.{laid, row}
 use Rattle.wire.specs.Tests.{pick, firstFailed}
 use Rattle.wire.proofs.Tests.{either, none-fails}
 use Rattle.wire.proofs.Rows.{row-most, row-same}
 use Rattle.record.specs.Record.{factsOf, recordBytes}
-use Rattle.refusals.specs.Tests.{lengthOk, formTests, factTests}
+use Rattle.forms.specs.Forms.{formLength}
+use Rattle.refusals.specs.Tests.{lengthOk, zerosOk, listsOk, formTests, factTests}
 use Rattle.cases.specs.Words.{Facts}
 use Rattle.cases.specs.declared.Reading.{Reading}
 use Rattle.cases.specs.Cases.{refusalOf, accepted, readingOf, writeRefusalOf}
-use Rattle.cases.proofs.Laws.{read-number, accepted-at, passed-facts}
+use Rattle.cases.proofs.Laws.{case-passes, read-number, accepted-at, passed-facts}
 use Rattle.answer.specs.Answer.{caseRefusalOf, answerOf, caseOf}
 use Rattle.answer.proofs.Cases.{answer-length}
 use Rattle.sheet.specs.declared.SheetAnswer.{SheetAnswer}
 use Rattle.cut.specs.Cut.{cutBy, cut}
+use Rattle.cut.proofs.Laws.{case-is}
 use Rattle.sheet.specs.Sheet.{whole, caseAt, casesIn, refusalBytes, entryBytes, ruledIn, wholeCases, sheetRefusalOf, refusedWhole, ruledWhole, sheetOf}
 use Rattle.sheet.proofs.Turns.{whole-cut, whole-few}
 use Rattle.text.specs.Text.{letters, spelt, decimalOf}
@@ -80,17 +82,14 @@ unfolding laid
 ended size numbers a n l m (inl e) p = inl (p .0 ∙ e .0, e .1, (a .1, e .2, p .1))
 ended size numbers a n l m (inr e) p = inr (rw (p .0) (e .0), p .1 ∙ ap (λ (w : List ℕ). laid w l) (e .1))
 
--- a case that is ruled had room, and so had facts that are written, whose record has 88 bytes
+-- a case that is ruled had room, and so had facts that are written
 pub case-fits : (s : List ℕ) (room : ℕ) → caseRefusalOf s room ≡ 0 → 96 ≤ room
 unfolding caseRefusalOf
 case-fits s room e = leb-true 96 room (none-fails (leb 96 room) 11 _ tt (none-fails (lengthOk s) 1 _ tt e .1) .0)
 
-pub write-fits : (f : Facts) (room : ℕ) → writeRefusalOf f room ≡ 0 → 88 ≤ room
+pub write-fits : (f : Facts) (room : ℕ) → writeRefusalOf f room ≡ 0 → formLength (f .form) ≤ room
 unfolding writeRefusalOf
-write-fits f room e = leb-true 88 room (none-fails (leb 88 room) 11 _ tt e .0)
-
-pub record-length : (f : Facts) → length (recordBytes f) ≡ 88
-record-length f = refl
+write-fits f room e = leb-true (formLength (f .form)) room (none-fails (leb (formLength (f .form)) room) 11 _ tt e .0)
 
 -- of what is laid over a buffer, the first so many bytes are what was written
 pub laid-taken : (n : ℕ) (w l m : List ℕ) → (n ≡ length w) × (m ≡ laid w l) → take n m ≡ w
@@ -157,7 +156,7 @@ none-written s room =
     either (λ (a : SheetAnswer × List ℕ). (a .0 .refusal ≡ 0 → ⊥) → a .1 ≡ []) (eqb (sheetRefusalOf s room) 0) (ruledWhole s (casesIn s)) (refusedWhole (sheetRefusalOf s room))
     (λ h d. absurd (d refl)) (λ h d. refl)
 
--- ---- a case of a sheet, by the number that reading it gives
+-- ---- a case of a sheet, which passes the tests 1 and 2, by the number that reading it gives
 module _ (s : List ℕ) (k : ℕ) (within : k < casesIn s) where
   abbrev c : List ℕ
   c = caseAt s k
@@ -167,7 +166,7 @@ module _ (s : List ℕ) (k : ℕ) (within : k < casesIn s) where
 
   entry-told : Told entryNumbers n
   unfolding refusalOf
-  entry-told = rw (read-number c) (told (formTests c ++ factTests (factsOf c)))
+  entry-told = let is = case-passes c (case-is s k within) in rw (read-number c) (simp (is .0, is .1) (told ((3, zerosOk c && listsOk c) ∷ factTests (factsOf c))))
 
   abbrev As : List ℕ → Type 0
   As w = ((n ≡ 0) × (w ≡ answerOf (readingOf c .facts)) × (length w ≡ 96)) ⊎ (OneOf entryNumbers n × (w ≡ refusalBytes k n) × (length w ≡ 12))

@@ -5,10 +5,8 @@ use native.Mathlib.Omega.{arith}
 use lib.ListN.{length}
 use denote.Ref.{now}
 use borrow.Author.Needs.{needs}
-use borrow.Author.Tests.{le-leb, lt-leb}
 use Rattle.wire.proofs.Tests.{fails, holds}
 use Rattle.forms.specs.Heads.{known, sizeIn, kindIn}
-use Rattle.cut.specs.Cut.{caseLength}
 use Rattle.cut.proofs.First.{none-short, none-unknown, none-cut, one-first}
 use Rattle.cut.proofs.case_length.Statement.{statement}
 use Rattle.cut.proofs.case_length.Tie as tie

@@ -1,6 +1,5 @@
 use Prim.Native.Nat.{_-_, _≤_}
 use native.Mathlib.Omega.{arith}
-use lib.ListN.{length}
 use Rattle.cut.proofs.Walk.{Counted, counted-start, counted-next, goes-on, stops, counted-place}
 use Rattle.cut.proofs.start_of.Statement.{statement}
 use Rattle.cut.proofs.start_of.Tie as tie

@@ -1,7 +1,7 @@
 use Prim.Native.Nat.{_-_}
 use mathlib.Core.Path.{_≡_}
 use native.Mathlib.Omega.{arith}
-use lib.ListN.{length, length-take, length-drop}
+use lib.ListN.{length-take, length-drop}
 use Rattle.fill_report.proofs.Turns.{Turn, first, next}
 use Rattle.fill_report.proofs.put_cases.Statement.{statement}
 use Rattle.fill_report.proofs.put_cases.Tie as tie

@@ -1,8 +1,7 @@
 use Prim.Native.Nat.{_-_}
 use mathlib.Core.Path.{_≡_}
 use native.Mathlib.Omega.{arith}
-use lib.ListN.{length, length-take, length-drop}
-use denote.Ref.{now}
+use lib.ListN.{length-take, length-drop}
 use Rattle.sheet.proofs.Turns.{Turn, first, next, few-more}
 use Rattle.report.specs.Report.{caseLine}
 use Rattle.report.proofs.Lines.{line-most, bytes-most}

@@ -1,4 +1,3 @@
-use Prim.Native.Nat.{_≤_}
 use mathlib.Core.Path.{ap}
 use mathlib.Core.Bool.{Bool, _&&_}
 use lib.ListN.{length}
