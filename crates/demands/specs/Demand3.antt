@@ -148,7 +148,9 @@ module _ (who : Side) (κs κs' : Lfts 2) (s s' t t' out out' o o' : RefT (List 
 
   blind-said : Said (caseOf (now s) (length (now out)) .0) (caseOf (now s) (length (now out)) .1) n (now out) (now out')
       → Said (caseOf (now t) (length (now o)) .0) (caseOf (now t) (length (now o)) .1) m (now o) (now o') → BlindCalls
-  blind-said p q e e' = rw (why.ruled-bytes (now s) (now out) (now out') n p e, why.ruled-bytes (now t) (now o) (now o') m q e') (bytes.blind who (now s) (now t) same untold)
+  blind-said p q e e' =
+      let long = bytes.alike-long who (now s) (now t) (why.ruled-accepted (now s) _ (sym (p .0) ∙ e)) (why.ruled-accepted (now t) _ (sym (q .0) ∙ e')) same in
+      rw (why.ruled-bytes (now s) (now out) (now out') n p e, why.ruled-bytes (now t) (now o) (now o') m q e') (bytes.blind who (now s) (now t) long same untold)
 
   pub rule-case-blind : answer.rule_case.Reads.Post κs (s, (out, tt)) n (s', (out', tt)) → answer.rule_case.Reads.Post κs' (t, (o, tt)) m (t', (o', tt)) → BlindCalls
   rule-case-blind = blind-said

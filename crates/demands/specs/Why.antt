@@ -110,6 +110,20 @@ ruled-bytes s l m n p e = by-test (eqb k 0) refl p where
   by-test true h p = ap (take 96) (p .1) ∙ take-at a (drop (length a) l) 96 (answer-length (factsOf s))
   by-test false h p = absurd (eqb-false k 0 h (sym (p .0) ∙ e))
 
+-- a case that is ruled was accepted
+pub ruled-accepted : (s : List ℕ) (room : ℕ) → caseOf s room .0 ≡ 0 → readingOf s .refusal ≡ 0
+unfolding caseOf caseRefusalOf refusalOf
+ruled-accepted s room e = by-test (eqb (caseRefusalOf s room) 0) refl e where
+  passed : caseRefusalOf s room ≡ 0 → readingOf s .refusal ≡ 0
+  passed z =
+      let one = none-fails (lengthOk s) 1 _ tt z in
+      let eleven = none-fails (leb 96 room) 11 _ tt (one .1) in
+      read-number s ∙ simp (one .0) (eleven .1)
+
+  by-test : (b : Bool) → eqb (caseRefusalOf s room) 0 ≡ b → pick {A = ℕ × List ℕ} b (0, answerOf (factsOf s)) (caseRefusalOf s room, []) .0 ≡ 0 → readingOf s .refusal ≡ 0
+  by-test true h z = passed (eqb-true (caseRefusalOf s room) 0 h)
+  by-test false h z = passed z
+
 -- ---- a sheet: the row where the number is 0, nothing where it is 10 or 11
 module _ (s : List ℕ) (room : ℕ) where
   abbrev number : ℕ

@@ -12,14 +12,14 @@ fn add_case_words(out: &mut [u8], at: usize, number: u8) -> usize
     ensures { λ r. ⌜ (r ≡ at + length (refusalWords number)) × (now (out .exit) ≡ laidAt at (refusalWords number) (now (out .entry))) × (r ≤ at + 60) ⌝ }
 {
     match number {
-        1 => text::add_word(out, at, b"the case is not 88 bytes long"),
-        2 => text::add_word(out, at, b"it does not begin as a case of kind 1 does"),
+        1 => text::add_word(out, at, b"the case is neither 88 nor 92 bytes long"),
+        2 => text::add_word(out, at, b"its head is not that of a case of its length"),
         3 => text::add_word(out, at, b"a zero byte or a coded byte is wrong"),
         4 => text::add_word(out, at, b"a member code is not of A to Z and 0 to 9"),
         5 => text::add_word(
             out,
             at,
-            b"a price is out of range, or none where it may not be",
+            b"a price or the differential is out of range, or wrongly none",
         ),
         6 => text::add_word(out, at, b"contracts or a size are out of range"),
         7 => text::add_word(
@@ -42,7 +42,7 @@ fn add_words(out: &mut [u8], at: usize, number: u8) -> usize
         return add_case_words(out, at, number);
     }
     match number {
-        10 => text::add_word(out, at, b"no whole number of cases, or more than 600"),
+        10 => text::add_word(out, at, b"no row of whole cases, or more than 52,800 bytes"),
         20 => text::add_word(out, at, b"no whole number of quotes, or more than 2,000"),
         21 => text::add_word(out, at, b"a quote has a bad field"),
         22 => text::add_word(out, at, b"the times of the quotes go back"),

@@ -23,6 +23,6 @@ lineOf s k = caseLine k (readingOf (caseAt s k))
 abbrev pub ruledText : List ℕ → ℕ → List ℕ
 ruledText s n = (header ++ row (lineOf s) n) ++ endLine (ruledIn s n) (n - ruledIn s n)
 
--- A sheet that is no whole number of cases, or too long, prints its refusal alone.
+-- A sheet that is no row of whole cases, or too long, prints its refusal alone.
 unfoldable pub textOf : List ℕ → List ℕ
 textOf s = pick (wholeCases s) (ruledText s (casesIn s)) (sheetLine 10)
