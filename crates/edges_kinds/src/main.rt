@@ -31,8 +31,8 @@ fn say_u8(answer: &[u8], at: usize) {
 }
 
 fn say_u32(answer: &[u8], at: usize) {
-    if at < 997 {
-        if at + 4 <= answer.len() {
+    if 4 <= answer.len() {
+        if at <= answer.len() - 4 {
             say_number(b" ", wire::read_u32(answer, at) as u64);
         }
     }
