@@ -4,6 +4,7 @@
 use libc::STDOUT_FILENO;
 use specimen::byte;
 use specimen::good;
+use specimen::good_two;
 use specimen::word;
 
 // The mark "none".
@@ -79,7 +80,7 @@ fn into_96(name: &[u8], case: &[u8]) {
     refused(name, case, &mut out, &fresh);
 }
 
-// A good case and one of kind 2.
+// A good case, and one whose 88 bytes say kind 2: no pair of length and kind (RULE R2.12).
 fn refuse_each(case: &[u8], other: &[u8]) {
     into_96(b"kind 2 into 96: ", other);
     into_95(b"kind 2 into 95: ", other);
@@ -108,19 +109,21 @@ fn say_sheet(name: &[u8], sheet: &[u8], out: &mut [u8]) {
     say(b"\n");
 }
 
-fn place(case: [u8; 88], sheet: &mut [u8], at: usize) {
-    if 88 <= sheet.len() {
-        if at <= sheet.len() - 88 {
-            bytes::copy(&case, &mut sheet[at..]);
+fn place(case: &[u8], sheet: &mut [u8], at: usize) {
+    if at <= sheet.len() {
+        if case.len() <= sheet.len() - at {
+            bytes::copy(case, &mut sheet[at..]);
         }
     }
 }
 
 // Good, one without contracts, good.
 fn place_three(sheet: &mut [u8]) {
-    place(good(), sheet, 0);
-    place(word(good(), 12, 0), sheet, 88);
-    place(good(), sheet, 176);
+    let case = good();
+    let bare = word(case, 12, 0);
+    place(&case, sheet, 0);
+    place(&bare, sheet, 88);
+    place(&case, sheet, 176);
 }
 
 // No byte of the sheet, and then its first `end` bytes.
@@ -147,25 +150,84 @@ fn sheets() {
     whole_sheet(&sheet, &mut out);
 }
 
+// ---- sheets as large as they get (RULE R3.10, R3.0.14)
+
+// The case again and again, while there is room for it.
+fn fill(case: &[u8], sheet: &mut [u8]) {
+    let n = case.len();
+    if n == 0 {
+        return;
+    }
+    let mut at = 0;
+    while n <= sheet.len() - at {
+        bytes::copy(case, &mut sheet[at..]);
+        at += n;
+    }
+}
+
+// 600 good cases are ruled, 96 bytes each: 57,600.
 fn say_most(sheet: &[u8], out: &mut [u8], short: &mut [u8]) {
     say_sheet(b"600 cases", sheet, out);
     say_sheet(b"600 cases into 57599", sheet, short);
 }
 
-// The whole sheet, and then its first `end` bytes. The calls stand apart from the arrays, and the end is no number here: either would
-// take the prover several times as long.
+// The whole sheet, and then its first `end` bytes, with one more and without. The calls stand apart from the arrays, and the end is no number
+// here: either would take the prover several times as long.
 fn say_large(sheet: &[u8], end: usize, out: &mut [u8], short: &mut [u8]) {
     say_sheet(b"601 cases", sheet, out);
-    if end <= sheet.len() {
+    if end < sheet.len() {
+        say_sheet(b"52801 bytes", &sheet[0..end + 1], out);
         say_most(&sheet[0..end], out, short);
     }
 }
 
+fn fill_one(sheet: &mut [u8]) {
+    let case = good();
+    fill(&case, sheet);
+}
+
 fn large_sheets() {
-    let sheet = [0u8; 52888];
+    let mut sheet = [0u8; 52888];
     let mut out = [0u8; 57696];
     let mut short = [0u8; 57599];
+    fill_one(&mut sheet);
     say_large(&sheet, 52800, &mut out, &mut short);
+}
+
+// 573 cases of kind 2 have 52,716 bytes, and 55,008 bytes of answers. One more, and the sheet has 52,808.
+fn say_large_two(sheet: &[u8], end: usize, out: &mut [u8], short: &mut [u8]) {
+    say_sheet(b"574 cases of kind 2", sheet, out);
+    if end <= sheet.len() {
+        say_sheet(b"573 cases of kind 2", &sheet[0..end], out);
+        say_sheet(b"573 cases of kind 2 into 55007", &sheet[0..end], short);
+    }
+}
+
+fn fill_two(sheet: &mut [u8]) {
+    let case = good_two();
+    fill(&case, sheet);
+}
+
+fn large_sheets_two() {
+    let mut sheet = [0u8; 52808];
+    let mut out = [0u8; 55104];
+    let mut short = [0u8; 55007];
+    fill_two(&mut sheet);
+    say_large_two(&sheet, 52716, &mut out, &mut short);
+}
+
+// 599 cases of kind 1 have 52,712 bytes; one of kind 2 behind them makes 52,804. Whole cases they are, and four bytes too many.
+fn fill_mixed(sheet: &mut [u8], at: usize) {
+    let case = good_two();
+    fill_one(sheet);
+    place(&case, sheet, at);
+}
+
+fn large_mixed() {
+    let mut sheet = [0u8; 52804];
+    let mut out = [0u8; 57600];
+    fill_mixed(&mut sheet, 52712);
+    say_sheet(b"599 cases of kind 1 and one of kind 2", &sheet, &mut out);
 }
 
 fn main() {
@@ -173,4 +235,6 @@ fn main() {
     refusals();
     sheets();
     large_sheets();
+    large_sheets_two();
+    large_mixed();
 }
