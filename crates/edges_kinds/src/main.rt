@@ -227,9 +227,6 @@ fn lengths() {
     let mut longer = [0u8; 94];
     place(&case, &mut longer, 0);
     say_lengths(&longer);
-    put(&mut longer, 0, 94);
-    put(&mut longer, 2, 3);
-    into_96(b"94 bytes, head 94 and 3", &longer);
 }
 
 // RULE R3.11: 96 bytes for the answer, of whatever kind the case is; 11 comes before 2.
@@ -328,18 +325,34 @@ fn say_rooms(sheet: &[u8], out: &mut [u8]) {
     }
 }
 
-fn say_head(name: &[u8], sheet: &mut [u8], size: u8, kind: u8, out: &mut [u8]) {
-    put(sheet, 88, size);
-    put(sheet, 90, kind);
+fn say_head(name: &[u8], sheet: &mut [u8], at: usize, kind: u8, out: &mut [u8]) {
+    put(sheet, at, kind);
     say_sheet(name, sheet, out);
 }
 
-// Another head of the second case. By (88, 1) the third would begin in the differential of the second.
+// Another kind beside the right length, so that every case begins where it should, and the pair alone is unknown (R2.12).
 fn say_heads(sheet: &mut [u8], out: &mut [u8]) {
-    say_head(b"head 92 and 1 in the middle", sheet, 92, 1, out);
-    say_head(b"head 88 and 1 over 92 bytes", sheet, 88, 1, out);
-    say_head(b"head 88 and 2 in the middle", sheet, 88, 2, out);
-    say_head(b"head 94 and 3 in the middle", sheet, 94, 3, out);
+    say_head(b"head 88 and 2 at the start", sheet, 2, 2, out);
+    say_head(b"head 88 and 1 at the start", sheet, 2, 1, out);
+    say_head(b"head 92 and 1 in the middle", sheet, 90, 1, out);
+}
+
+// And another length: the third case would begin in the differential of the second.
+fn say_short(sheet: &mut [u8], out: &mut [u8]) {
+    put(sheet, 88, 88);
+    say_sheet(b"head 88 and 1 over 92 bytes", sheet, out);
+}
+
+// One case, as long as its head says, of a kind that there is not.
+fn unknown() {
+    let case = good_two();
+    let mut sheet = [0u8; 94];
+    let mut out = [238u8; 96];
+    place(&case, &mut sheet, 0);
+    put(&mut sheet, 0, 94);
+    put(&mut sheet, 2, 3);
+    into_96(b"94 bytes, head 94 and 3", &sheet);
+    say_sheet(b"a sheet of 94 bytes, head 94 and 3", &sheet, &mut out);
 }
 
 fn sheets() {
@@ -351,6 +364,7 @@ fn sheets() {
     say_rests(&sheet, &mut out);
     say_rooms(&sheet, &mut short);
     say_heads(&mut sheet, &mut out);
+    say_short(&mut sheet, &mut out);
 }
 
 fn main() {
@@ -359,4 +373,5 @@ fn main() {
     rooms();
     writings();
     sheets();
+    unknown();
 }
