@@ -7,6 +7,7 @@ use Rattle.wire.specs.Exact.{Exact, ExactIn}
 use Rattle.wire.proofs as wire
 use Rattle.facts.proofs as facts
 use Rattle.codes.proofs as codes
+use Rattle.forms.proofs as forms
 use Rattle.record.proofs as records
 use Rattle.writing.proofs as writing
 use Rattle.refusals.proofs as refusals
@@ -22,6 +23,7 @@ use Rattle.filling.proofs as filling
 use Rattle.bands.proofs as bands
 use Rattle.parties.proofs as parties
 use Rattle.way.proofs as way
+use Rattle.width.proofs as width
 use Rattle.theory.proofs as theory
 use Rattle.agreement.proofs as agreement
 use Rattle.act.proofs as act
@@ -105,6 +107,28 @@ flag-of-exact = codes.Exact.flag-of-exact
 
 pub flag-number-exact : Exact (codes.flag_number.Reads.Post tt)
 flag-number-exact = codes.Exact.flag-number-exact
+
+-- ---- forms
+pub is-length-exact : Exact (forms.is_length.Reads.Post tt)
+is-length-exact = forms.Exact.is-length-exact
+
+pub is-known-exact : Exact (forms.is_known.Reads.Post tt)
+is-known-exact = forms.Exact.is-known-exact
+
+pub length-of-exact : Exact (forms.length_of.Reads.Post tt)
+length-of-exact = forms.Exact.length-of-exact
+
+pub kind-of-form-exact : Exact (forms.kind_of.Reads.Post tt)
+kind-of-form-exact = forms.Exact.kind-of-exact
+
+pub differential-of-exact : Exact (forms.differential_of.Reads.Post tt)
+differential-of-exact = forms.Exact.differential-of-exact
+
+pub form-of-exact : (κs : Lfts 1) → Exact (forms.form_of.Reads.Post κs)
+form-of-exact = forms.Exact.form-of-exact
+
+pub put-form-exact : (κs : Lfts 1) → ExactIn (λ a. a .0) (forms.put_form.Reads.Post κs)
+put-form-exact = forms.Exact.put-form-exact
 
 -- ---- record, writing
 pub trade-of-exact : (κs : Lfts 1) → Exact (records.trade_of.Reads.Post κs)
@@ -238,6 +262,10 @@ other-kind-exact = parties.Exact.other-kind-exact
 
 pub any-customer-exact : Exact (parties.any_customer.Reads.Post tt)
 any-customer-exact = parties.Exact.any-customer-exact
+
+-- ---- width
+pub is-wide-exact : Exact (width.is_wide.Reads.Post tt)
+is-wide-exact = width.Exact.is-wide-exact
 
 -- ---- way, theory, agreement
 pub no-later-exact : Exact (way.no_later.Reads.Post tt)
@@ -405,3 +433,6 @@ byte-exact = specimen.Exact.byte-exact
 
 pub word-exact : Exact (specimen.word.Reads.Post tt)
 word-exact = specimen.Exact.word-exact
+
+pub good-two-exact : Exact (specimen.good_two.Reads.Post tt)
+good-two-exact = specimen.Exact.good-two-exact

@@ -16,6 +16,7 @@ use Rattle.cases.specs.Cases.{refusalOf, accepted, refused, readingOf, writeRef
 use Rattle.bands.specs.Table.{bandOf}
 use Rattle.bands.specs.Amounts.{inError, movedBy, obviousAdjustmentOf}
 use Rattle.way.specs.Way.{obviousOpen, openingOpen, catastrophicOpen, wayOf}
+use Rattle.width.specs.Width.{apart}
 use Rattle.theory.specs.Theory.{theoryOf}
 use Rattle.agreement.specs.Agreed.{inTime, mayNullify, heededOf}
 use Rattle.act.specs.Limits.{openingTested, openingStopped}
@@ -26,7 +27,7 @@ use Rattle.answer.specs.Answer.{caseRefusalOf, answerOf, caseOf}
 use Rattle.forms.specs.Heads.{pairs, known, isLength}
 use Rattle.cut.specs.Cut.{begins, caseLength, cutBy, cut}
 use Rattle.sheet.specs.Sheet.{whole, caseAt, refusalBytes, entryBytes, ruledOne, ruledIn, wholeCases, sheetRefusalOf, sheetOf}
-use Rattle.specimen.specs.Good.{goodCase}
+use Rattle.specimen.specs.Good.{goodCase, goodTwo}
 
 -- Trade 7, two Market Makers: a buy of 10 at 2.000, best offer 1.500, filed after 120 s. 2.000 is at least 1.500 + .25, so 1.500 + .15 for
 -- reason 6, all 10 contracts. In mills:
@@ -54,6 +55,50 @@ pub good-ruled : caseOf goodCase 96 ≡ (0, goodAnswer)
 unfolding caseOf caseRefusalOf headOk zerosOk listsOk codesOk codeOk codeByteOk pricesOk quotesPriced countsOk timesOk limitsOk inRange numberAt factsOf tradeOf marketOf requestOf partyAt settlementOf priceOf momentOf sideOf kindOf dayOf agreementOf flagOf bandOf inError movedBy obviousAdjustmentOf wayOf obviousOpen openingOpen catastrophicOpen theoryOf heededOf inTime mayNullify obviousAct actOf ruledAt ruledOn ruledBy rulingOf rulingRecord shows shownCode noticeRecord answerRecords answerOf isLength known pairs formOf
 good-ruled = refl
 
+-- ---- the same trade as a case of kind 2, whose permitted differential is 50 mills: the offer of 1.500 is the bid of 1.400 and twice .050, so both
+-- quotes are too wide to trust
+
+-- It is accepted, and written back in its 92 bytes.
+pub two-accepted : readingOf goodTwo ≡ accepted (factsOf goodTwo)
+unfolding readingOf refusalOf headOk zerosOk listsOk codesOk codeOk codeByteOk pricesOk quotesPriced countsOk timesOk limitsOk inRange numberAt factsOf tradeOf marketOf requestOf partyAt settlementOf priceOf momentOf sideOf kindOf dayOf agreementOf flagOf isLength known pairs formOf
+two-accepted = refl
+
+pub two-written : writingOf (factsOf goodTwo) 92 ≡ (0, goodTwo)
+unfolding writingOf writeRefusalOf codesOk codeOk codeByteOk pricesOk quotesPriced countsOk timesOk limitsOk inRange numberAt factsOf tradeOf marketOf requestOf partyAt settlementOf priceOf momentOf sideOf kindOf dayOf agreementOf flagOf formOf
+two-written = refl
+
+-- No official gave a price, so it waits (14): no TP, no origin, all 10 contracts stand, and neither notice shows a code.
+abbrev waitingAnswer : List ℕ
+waitingAnswer =
+    bytes 2 32 ++ bytes 2 16 ++ bytes 4 7 ++ (3 ∷ 14 ∷ 0 ∷ 0 ∷ []) ++ bytes 4 4294967295 ++ bytes 4 4294967295 ++ bytes 4 0 ++ bytes 4 0 ++ bytes 4 10
+    ++ bytes 2 32 ++ bytes 2 17 ++ bytes 4 7 ++ (3 ∷ 14 ∷ 1 ∷ 0 ∷ []) ++ bytes 4 4294967295 ++ bytes 4 0 ++ bytes 4 0 ++ bytes 4 0 ++ (65 ∷ 66 ∷ 49 ∷ 50 ∷ [])
+    ++ bytes 2 32 ++ bytes 2 17 ++ bytes 4 7 ++ (3 ∷ 14 ∷ 2 ∷ 0 ∷ []) ++ bytes 4 4294967295 ++ bytes 4 0 ++ bytes 4 0 ++ bytes 4 0 ++ (90 ∷ 88 ∷ 57 ∷ 48 ∷ [])
+
+pub two-waits : caseOf goodTwo 96 ≡ (0, waitingAnswer)
+unfolding caseOf caseRefusalOf headOk zerosOk listsOk codesOk codeOk codeByteOk pricesOk quotesPriced countsOk timesOk limitsOk inRange numberAt factsOf tradeOf marketOf requestOf partyAt settlementOf priceOf momentOf sideOf kindOf dayOf agreementOf flagOf bandOf inError movedBy obviousAdjustmentOf wayOf obviousOpen openingOpen catastrophicOpen theoryOf heededOf inTime mayNullify obviousAct actOf ruledAt ruledOn ruledBy rulingOf rulingRecord shows shownCode noticeRecord answerRecords answerOf isLength known pairs formOf apart
+two-waits = refl
+
+-- An official's price of 1.600 is then TP: 2.000 is at least 1.600 + .25, so 1.600 + .15 for reason 6, with the origin 2.
+abbrev officialAnswer : List ℕ
+officialAnswer =
+    bytes 2 32 ++ bytes 2 16 ++ bytes 4 7 ++ (1 ∷ 6 ∷ 2 ∷ 0 ∷ []) ++ bytes 4 1600 ++ bytes 4 1750 ++ bytes 4 10 ++ bytes 4 0 ++ bytes 4 0
+    ++ bytes 2 32 ++ bytes 2 17 ++ bytes 4 7 ++ (1 ∷ 6 ∷ 1 ∷ 0 ∷ []) ++ bytes 4 1750 ++ bytes 4 10 ++ bytes 4 0 ++ (90 ∷ 88 ∷ 57 ∷ 48 ∷ []) ++ (65 ∷ 66 ∷ 49 ∷ 50 ∷ [])
+    ++ bytes 2 32 ++ bytes 2 17 ++ bytes 4 7 ++ (1 ∷ 6 ∷ 2 ∷ 0 ∷ []) ++ bytes 4 1750 ++ bytes 4 10 ++ bytes 4 0 ++ (65 ∷ 66 ∷ 49 ∷ 50 ∷ []) ++ (90 ∷ 88 ∷ 57 ∷ 48 ∷ [])
+
+pub two-by-an-official : caseOf (stored goodTwo 40 (bytes 4 1600)) 96 ≡ (0, officialAnswer)
+unfolding caseOf caseRefusalOf headOk zerosOk listsOk codesOk codeOk codeByteOk pricesOk quotesPriced countsOk timesOk limitsOk inRange numberAt factsOf tradeOf marketOf requestOf partyAt settlementOf priceOf momentOf sideOf kindOf dayOf agreementOf flagOf bandOf inError movedBy obviousAdjustmentOf wayOf obviousOpen openingOpen catastrophicOpen theoryOf heededOf inTime mayNullify obviousAct actOf ruledAt ruledOn ruledBy rulingOf rulingRecord shows shownCode noticeRecord answerRecords answerOf isLength known pairs formOf apart
+two-by-an-official = refl
+
+-- A differential of 51 mills, and the quotes are not wide: the answer is that of kind 1.
+abbrev narrowCase : List ℕ
+narrowCase = stored goodTwo 88 (bytes 4 51)
+
+pub two-as-one : caseOf narrowCase 96 ≡ (0, goodAnswer)
+unfolding caseOf caseRefusalOf headOk zerosOk listsOk codesOk codeOk codeByteOk pricesOk quotesPriced countsOk timesOk limitsOk inRange numberAt factsOf tradeOf marketOf requestOf partyAt settlementOf priceOf momentOf sideOf kindOf dayOf agreementOf flagOf bandOf inError movedBy obviousAdjustmentOf wayOf obviousOpen openingOpen catastrophicOpen theoryOf heededOf inTime mayNullify obviousAct actOf ruledAt ruledOn ruledBy rulingOf rulingRecord shows shownCode noticeRecord answerRecords answerOf isLength known pairs formOf apart
+two-as-one = refl
+
+-- ---- a sheet
+
 -- the same without contracts, which fails test 6
 abbrev badCase : List ℕ
 badCase = stored goodCase 12 (bytes 4 0)
@@ -78,3 +123,9 @@ pub good-sheet : sheetOf (goodCase ++ badCase ++ openingCase) 288
     ≡ (record { refusal = 0; written = 204; ruled = 2; refused = 1 }, goodAnswer ++ badAnswer ++ openingAnswer)
 unfolding pairs known begins caseLength cutBy cut whole sheetOf sheetRefusalOf wholeCases row entryBytes refusalBytes ruledOne ruledIn caseAt readingOf refused refusalOf headOk zerosOk listsOk codesOk codeOk codeByteOk pricesOk quotesPriced countsOk timesOk limitsOk inRange numberAt factsOf tradeOf marketOf requestOf partyAt settlementOf priceOf momentOf sideOf kindOf dayOf agreementOf flagOf bandOf inError movedBy obviousAdjustmentOf wayOf obviousOpen openingOpen catastrophicOpen theoryOf heededOf inTime mayNullify openingTested openingStopped obviousAct openingAct actOf ruledAt ruledOn ruledBy rulingOf rulingRecord shows shownCode noticeRecord answerRecords answerOf isLength formOf
 good-sheet = refl
+
+-- So is one of both kinds: a case of kind 2 that waits, the good one of kind 1, one of kind 2 that is not wide.
+pub mixed-sheet : sheetOf (goodTwo ++ goodCase ++ narrowCase) 288
+    ≡ (record { refusal = 0; written = 288; ruled = 3; refused = 0 }, waitingAnswer ++ goodAnswer ++ goodAnswer)
+unfolding pairs known begins caseLength cutBy cut whole sheetOf sheetRefusalOf wholeCases row entryBytes refusalBytes ruledOne ruledIn caseAt readingOf refused refusalOf headOk zerosOk listsOk codesOk codeOk codeByteOk pricesOk quotesPriced countsOk timesOk limitsOk inRange numberAt factsOf tradeOf marketOf requestOf partyAt settlementOf priceOf momentOf sideOf kindOf dayOf agreementOf flagOf bandOf inError movedBy obviousAdjustmentOf wayOf obviousOpen openingOpen catastrophicOpen theoryOf heededOf inTime mayNullify openingTested openingStopped obviousAct openingAct actOf ruledAt ruledOn ruledBy rulingOf rulingRecord shows shownCode noticeRecord answerRecords answerOf isLength formOf apart
+mixed-sheet = refl
