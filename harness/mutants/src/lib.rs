@@ -48,7 +48,7 @@ fn report<'a>(of: &str, verdicts: impl Iterator<Item = (&'a str, Verdict)>) {
 fn every_mutant_is_found() {
     let (seed, cases) = (settings::seed(), settings::cases());
     let judged =
-        |mutant: &dyn Desk| judge(|| stream(&Proved, mutant, seed, cases, |_, _| ()).map(|_| ()));
+        |mutant: &dyn Desk| judge(|| stream(&Proved, mutant, seed, cases, |_| ()).map(|_| ()));
     report(
         "cases",
         MUTANTS
