@@ -8,16 +8,19 @@ use std::{env, fs};
 
 mod list;
 mod quotes;
+mod wide;
 
 fn main() {
     let page = PathBuf::from("../src/page");
     let out = PathBuf::from(env::var("OUT_DIR").expect("cargo sets it"));
     println!("cargo::rerun-if-changed=list.rs");
     println!("cargo::rerun-if-changed=quotes.rs");
+    println!("cargo::rerun-if-changed=wide.rs");
     println!("cargo::rerun-if-changed={}", page.display());
     let mut modules = String::new();
     let mut desks = String::new();
-    for (index, (file, edit)) in edits(list::MUTATIONS).enumerate() {
+    let whole = edits(list::MUTATIONS).chain(edits(wide::MUTATIONS));
+    for (index, (file, edit)) in whole.enumerate() {
         let folder = out.join(format!("m{index}"));
         copy_page(&page, &folder);
         write_mutant(&page, &folder, file, edit);

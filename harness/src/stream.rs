@@ -103,30 +103,46 @@ impl<S: FnMut(Seen)> Stream<'_, S> {
     }
 
     fn sheet(&mut self, sheet: &[u8]) -> Result<(), Difference> {
-        let cases = cases_of(sheet).unwrap_or(sheet.len() / 88);
-        let enough = cases * 96;
-        let out_len = match self.random.within(0, 15) {
-            0 | 1 => self.random.within(0, enough as u32) as usize,
-            2 | 3 => enough.saturating_sub(1),
-            4 | 5 => enough + self.random.within(1, 200) as usize,
-            // As a desk would ask that reckons by the bytes of one kind.
-            6 => sheet.len() / 88 * 96,
-            7 => sheet.len() / 92 * 96,
-            _ => enough,
-        };
-        let (refusal, answers) = self
-            .comparison
-            .rule_sheet(sheet, out_len, &mut self.random)?;
-        (self.saw)(Seen::Sheet {
-            sheet,
-            out_len,
-            refusal,
-            answers,
-        });
+        for out_len in rooms(&mut self.random, sheet) {
+            let (refusal, answers) =
+                self.comparison
+                    .rule_sheet(sheet, out_len, &mut self.random)?;
+            (self.saw)(Seen::Sheet {
+                sheet,
+                out_len,
+                refusal,
+                answers,
+            });
+        }
         if self.random.once_in(4) {
             self.comparison.print_sheet(sheet, &mut self.random)?;
         }
         Ok(())
+    }
+}
+
+/// How much room there is for a sheet's answers: one length, mostly just enough; of the longest sheets,
+/// which are seldom, each.
+fn rooms(random: &mut Random, sheet: &[u8]) -> Vec<usize> {
+    let enough = 96 * cases_of(sheet).unwrap_or(sheet.len() / 88);
+    // As a desk would ask that reckons by the bytes of one kind.
+    let by_bytes = [88, 92].map(|bytes| sheet.len() / bytes * 96);
+    let too_few = random.within(0, enough as u32) as usize;
+    let more = enough + random.within(1, 200) as usize;
+    let lengths = [
+        enough,
+        enough.saturating_sub(1),
+        too_few,
+        more,
+        by_bytes[0],
+        by_bytes[1],
+    ];
+    if sheet.len() > 52_000 {
+        lengths.to_vec()
+    } else if random.once_in(2) {
+        vec![enough]
+    } else {
+        vec![random.pick(&lengths)]
     }
 }
 

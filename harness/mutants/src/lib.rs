@@ -1,5 +1,5 @@
 //! The comparison must fail when a desk is wrong: copies of the independent desk, each broken in
-//! one way (`list.rs`, `quotes.rs`), are compared with the proved desk, and each must be found within
+//! one way (`list.rs`, `wide.rs`, `quotes.rs`), are compared with the proved desk, and each must be found within
 //! the cases, or the lists of quotes, of a default run.
 
 #![cfg(test)]
