@@ -130,12 +130,13 @@ fn check_sheet(
     assert_eq!(text == b"SHEET REFUSED 10\n", !whole);
 }
 
-/// Cases of kind 1 and of kind 2, and whether a sheet may hold so many.
+/// Cases of kind 1 and of kind 2, and whether a sheet may hold so many; each sheet whole and with a rest
+/// of zeros or of another case.
 #[test]
 fn sheets_of_no_case_and_of_as_many_as_there_may_be() {
     let mut random = Random::new(settings::seed());
     let mut comparison = Comparison::new(&Proved, &Plain);
-    let mut numbers = vec![
+    for (narrow, wide, whole) in [
         (0, 0, true),
         (1, 0, true),
         (0, 1, true),
@@ -149,28 +150,45 @@ fn sheets_of_no_case_and_of_as_many_as_there_may_be() {
         (0, 572, true),
         (0, 573, true),  // 52,716 bytes
         (0, 574, false), // 52,808
-        (0, 1_200, false),
-        (599, 1, false), // 52,804
         (598, 1, true),  // 52,716
-    ];
-    for turns in 1..=26 {
-        // 23 cases of kind 1 are as long as 22 of kind 2: 52,800 bytes, and four more.
-        numbers.push((600 - 23 * turns, 22 * turns, true));
-        numbers.push((599 - 23 * turns, 22 * turns + 1, false));
-    }
-    for (narrow, wide, whole) in numbers {
+        (599, 1, false), // 52,804
+    ] {
         let row = row(narrow, wide, &mut random).concat();
-        assert_eq!(row.len() <= 52_800, whole);
         let room = (narrow + wide) * 96;
         check_sheet(&row, room, whole, &mut comparison, &mut random);
-        let heads = [&[0, 0, 0, 0], &[88, 0, 1, 0], &[92, 0, 2, 0]];
-        for more in [1, 2, 3, 4, 44, 87] {
-            for head in heads {
-                let mut ragged = row.clone();
-                ragged.extend(head.iter().chain(&[0; 83]).take(more));
-                check_sheet(&ragged, room, false, &mut comparison, &mut random);
-            }
+        for (more, head) in [
+            (1, [88, 0, 1, 0]),
+            (2, [92, 0, 2, 0]),
+            (3, [0; 4]),
+            (4, [92, 0, 2, 0]),
+            (44, [0; 4]),
+            (87, [88, 0, 1, 0]),
+            (91, [92, 0, 2, 0]),
+        ] {
+            let mut ragged = row.clone();
+            ragged.extend(head.iter().chain(&[0; 87]).take(more));
+            check_sheet(&ragged, room, false, &mut comparison, &mut random);
         }
+    }
+}
+
+/// 23 cases of kind 1 are as long as 22 of kind 2, so that both together can make up 52,800 bytes; one
+/// more byte, or one case of kind 2 for one of kind 1, is too much.
+#[test]
+fn sheets_of_both_kinds_that_end_at_52_800_bytes() {
+    let mut random = Random::new(settings::seed());
+    let mut comparison = Comparison::new(&Proved, &Plain);
+    for turns in 1..=26 {
+        let (narrow, wide) = (600 - 23 * turns, 22 * turns);
+        let mut longest = row(narrow, wide, &mut random).concat();
+        assert_eq!(longest.len(), 52_800);
+        let room = (narrow + wide) * 96;
+        check_sheet(&longest, room, true, &mut comparison, &mut random);
+        longest.push(88);
+        check_sheet(&longest, room, false, &mut comparison, &mut random);
+        let longer = row(narrow - 1, wide + 1, &mut random).concat();
+        assert_eq!(longer.len(), 52_804);
+        check_sheet(&longer, room, false, &mut comparison, &mut random);
     }
 }
 
