@@ -14,9 +14,9 @@ const WIDE: u32 = 22;
 /// The records of a round: a few, now and then none, sometimes so many of kind 2 that their bytes
 /// would make more cases of kind 1, and seldom about as many as a sheet may hold.
 pub fn records(mixture: &Mixture, random: &mut Random) -> Vec<Vec<u8>> {
-    let (narrow, wide) = match random.within(0, 1_999) {
+    let (narrow, wide) = match random.within(0, 1_299) {
         0 => longest(random),
-        1..=30 => (random.within(0, 30), random.within(WIDE, 50)),
+        1..=20 => (random.within(0, 30), random.within(WIDE, 50)),
         _ => {
             let cases = random.within(0, 12);
             let wide = match random.within(0, 3) {
