@@ -208,7 +208,7 @@ fn shows(cause: &str, sheet: &[u8], cases: &[&[u8]], rest: &[u8], out_len: usize
         CUT_WIDE => wide,
         CUT_AT_88 => wide && rest.len() == 88,
         CUT_TO_HEAD => (narrow || wide) && rest.len() == 4,
-        MULTIPLE_OF_88 => (narrow || wide) && sheet.len() % 88 == 0,
+        MULTIPLE_OF_88 => (narrow || wide) && sheet.len().is_multiple_of(88),
         TOO_LONG_NARROW => too_long && row && kinds(cases) == (true, false),
         TOO_LONG_WIDE => too_long && row && kinds(cases) == (false, true),
         TOO_LONG_MIXED => sheet.len() == 52_804 && row && kinds(cases) == (true, true),
