@@ -10,7 +10,9 @@
  * A program that was compiled when struct desk_best had five numbers, and desk_best_quotes three arguments, must be compiled
  * again: the linker does not see the difference. One that was written when bytes 10 and 11 of a ruling were both zero, under the
  * name DESK_RULING_AT_ZERO, and a printed line had eight fields, must be changed where it reads them: byte 10 tells the origin
- * of the theoretical price, and so does a ninth field, FROM. With the old name it does not compile. */
+ * of the theoretical price, and so does a ninth field, FROM. With the old name it does not compile. One that was written when every
+ * case was 88 bytes long goes on as it is for such cases, but for a sheet in which one begins otherwise: that was a refused case,
+ * with the number 2, and is now a sheet refused whole (10). */
 #ifndef DESK_H
 #define DESK_H
 
@@ -23,13 +25,14 @@ extern "C" {
 
 /* ---- Lengths */
 
-#define DESK_CASE_BYTES 88u      /* a case record */
+#define DESK_CASE_BYTES 88u      /* a case record of kind 1 */
+#define DESK_WIDE_CASE_BYTES 92u /* a case record of kind 2 */
 #define DESK_RULING_BYTES 32u    /* a ruling */
 #define DESK_NOTICE_BYTES 32u    /* a notice */
 #define DESK_ANSWER_BYTES 96u    /* a ruling and two notices */
 #define DESK_REFUSED_BYTES 12u   /* a refused case of a sheet */
-#define DESK_SHEET_CASES 600u    /* the most cases of a sheet */
-#define DESK_SHEET_BYTES 52800u  /* the longest sheet: 600 cases */
+#define DESK_SHEET_CASES 600u    /* the most cases of a sheet: all of them of kind 1 */
+#define DESK_SHEET_BYTES 52800u  /* the longest sheet: 600 cases of kind 1; 573 of kind 2 take 52,716 */
 #define DESK_TEXT_BYTES 65536u   /* room for the text of any sheet */
 #define DESK_QUOTE_BYTES 28u     /* a quote record */
 #define DESK_QUOTES 2000u        /* the most quotes of a list */
@@ -41,7 +44,8 @@ extern "C" {
 #define DESK_AT_LENGTH 0u /* 2: the record's length */
 #define DESK_AT_KIND 2u   /* 2: its kind */
 
-#define DESK_KIND_CASE 1u
+#define DESK_KIND_CASE 1u      /* a case, DESK_CASE_BYTES long */
+#define DESK_KIND_WIDE_CASE 2u /* a case with a permitted differential, DESK_WIDE_CASE_BYTES long */
 #define DESK_KIND_RULING 16u
 #define DESK_KIND_NOTICE 17u
 #define DESK_KIND_REFUSED 18u
@@ -49,7 +53,9 @@ extern "C" {
 
 #define DESK_NONE 4294967295u /* the mark "none", of a price and of an acceptance */
 
-/* ---- The case record. Prices are in mills ($1 is 1,000), times in seconds after midnight. */
+/* ---- The case record. Prices are in mills ($1 is 1,000), times in seconds after midnight. A case of kind 1 is 88 bytes long, one
+ * of kind 2 is 92: the same fields in the same places, and the permitted differential behind them. A sheet may hold both, each at
+ * the end of the one before it. */
 
 #define DESK_CASE_AT_TRADE 4u           /* 4: trade number, any */
 #define DESK_CASE_AT_EXECUTION 8u       /* 4: execution price, never none */
@@ -78,6 +84,7 @@ extern "C" {
 #define DESK_CASE_AT_AGREED_AFTER 76u   /* 4: agreement, seconds after notice, 0 to DESK_MOST_AFTER; 0 if none was made */
 #define DESK_CASE_AT_ACCEPTED_AFTER 80u /* 4: a Customer's acceptance, seconds after notice, 0 to DESK_MOST_AFTER, or none */
 #define DESK_CASE_AT_LAST_ZERO 84u      /* 4: zero */
+#define DESK_CASE_AT_DIFFERENTIAL 88u   /* 4: kind 2 alone: permitted differential in mills, 1 to DESK_HIGHEST_PRICE */
 
 #define DESK_HIGHEST_PRICE 9999999u
 #define DESK_MOST_CONTRACTS 1000000u
@@ -147,9 +154,11 @@ extern "C" {
 #define DESK_NULLIFIED 2u
 #define DESK_WAITING 3u
 
-#define DESK_ORIGIN_NONE 0u     /* TP is none: for reasons 2, 3 and 14, and no other; a quote may stand in the case all the same */
-#define DESK_ORIGIN_QUOTE 1u    /* TP is the best offer of a buy, the best bid of a sell */
-#define DESK_ORIGIN_OFFICIAL 2u /* that quote is none, and TP the official's price */
+/* What gave TP. In a case of kind 2 the quotes are wide where both are there and the offer is at least the bid plus twice the
+ * differential; then neither gives TP. A crossed market is not wide, and a case of kind 1 never. */
+#define DESK_ORIGIN_NONE 0u     /* TP is none: for reasons 2, 3 and 14, and no other; quotes may stand in the case all the same */
+#define DESK_ORIGIN_QUOTE 1u    /* TP is the best offer of a buy, the best bid of a sell, and the quotes are not wide */
+#define DESK_ORIGIN_OFFICIAL 2u /* that quote is none or the quotes are wide, and TP is the official's price */
 
 #define DESK_REASON_NO_ERROR 1u                   /* no relief: execution is not off TP by the minimum, in the side's direction */
 #define DESK_REASON_LATE 2u                       /* no relief: no way is open */
@@ -164,26 +173,26 @@ extern "C" {
 #define DESK_REASON_OBVIOUS_WITH_CUSTOMER 11u     /* nullified: obvious, with a Customer */
 #define DESK_REASON_CATASTROPHIC_NOT_ACCEPTED 12u /* nullified: past a Customer's limit, and not accepted in time */
 #define DESK_REASON_AGREED_NULLIFICATION 13u      /* nullified: agreed */
-#define DESK_REASON_NO_PRICE 14u                  /* waiting: neither a quote nor an official's price */
+#define DESK_REASON_NO_PRICE 14u                  /* waiting: no quote that gives TP, and no official's price */
 
 /* ---- The answer to a refused case of a sheet, DESK_REFUSED_BYTES long. */
 
 #define DESK_REFUSED_AT_INDEX 4u  /* 4: which case of the sheet, from 0 */
-#define DESK_REFUSED_AT_NUMBER 8u /* 2: DESK_REFUSAL_.., 2 to 9 */
+#define DESK_REFUSED_AT_NUMBER 8u /* 2: DESK_REFUSAL_.., 3 to 9 */
 #define DESK_REFUSED_AT_ZERO 10u  /* 2: zero */
 
 /* ---- The numbers given back instead of a ruling: each of the first test that fails. 0 is none of them. */
 
-#define DESK_REFUSAL_CASE_LENGTH 1u        /* the case isn't 88 bytes long */
-#define DESK_REFUSAL_LENGTH_OR_KIND 2u     /* its length or kind is another */
+#define DESK_REFUSAL_CASE_LENGTH 1u        /* the case is neither 88 nor 92 bytes long */
+#define DESK_REFUSAL_LENGTH_OR_KIND 2u     /* it begins with another pair of length and kind than that of its bytes */
 #define DESK_REFUSAL_ZERO_OR_CODED_BYTE 3u /* a zero byte isn't zero, or a coded byte is not in its list */
 #define DESK_REFUSAL_MEMBER_CODE 4u        /* a byte of a member code is not allowed */
-#define DESK_REFUSAL_PRICE 5u              /* a price is above DESK_HIGHEST_PRICE and isn't a permitted none */
+#define DESK_REFUSAL_PRICE 5u              /* a price is above DESK_HIGHEST_PRICE and no permitted none, or a differential 0 */
 #define DESK_REFUSAL_CONTRACTS_OR_SIZE 6u  /* contracts or a size break their rule */
 #define DESK_REFUSAL_TIME 7u               /* a time or count of seconds is out of range, or on day 0 filed before executed */
 #define DESK_REFUSAL_LIMIT 8u              /* the execution price is above the buyer's limit or below the seller's */
 #define DESK_REFUSAL_AGREEMENT 9u          /* the agreement's fields contradict byte 67 */
-#define DESK_REFUSAL_SHEET_LENGTH 10u      /* the sheet isn't a whole number of cases, or has more than 600 */
+#define DESK_REFUSAL_SHEET_LENGTH 10u      /* the sheet isn't a row of whole cases of kinds 1 and 2, or is above DESK_SHEET_BYTES */
 #define DESK_REFUSAL_ANSWER_BUFFER 11u     /* the answer buffer is under 96 bytes (case) or 96 per case (sheet) */
 #define DESK_REFUSAL_QUOTES_LENGTH 20u     /* the list isn't a whole number of quotes, or has more than 2,000 */
 #define DESK_REFUSAL_QUOTE_FIELD 21u       /* a field of a quote is bad: length, kind, exchange, time, a price or a size */
@@ -193,7 +202,8 @@ extern "C" {
 
 /* ---- The functions */
 
-/* What ruling a sheet gives back. If the sheet is refused whole, `refusal` is the number (10 or 11) and the rest is 0. */
+/* What ruling a sheet gives back. If the sheet is refused whole, `refusal` is the number (10, then 11) and the rest is 0: one case
+ * that begins otherwise than a case does is enough. */
 struct desk_sheet {
     uint64_t refusal; /* 0 if the sheet is ruled */
     uint64_t written; /* bytes written */
@@ -212,15 +222,16 @@ struct desk_best {
     uint64_t examined;   /* the quotes examined, at most those before the trade */
 };
 
-/* Reads a case: 0 if it is accepted, else the number of the first test that fails (1, then 2 to 9). */
+/* Reads a case of either kind: 0 if it is accepted, else the number of the first test that fails (1, then 2 to 9). */
 uint32_t desk_check_case(const uint8_t *record, size_t len);
 
-/* Rules a case: 0, and 96 bytes at `out` (the ruling, the buyer's and the seller's notice), the bytes after them kept; or the
- * number of the first test that fails (1, 11, then 2 to 9), and `out` as it was. */
+/* Rules a case of either kind: 0, and 96 bytes at `out` (the ruling, the buyer's and the seller's notice), the bytes after them
+ * kept; or the number of the first test that fails (1, 11, then 2 to 9), and `out` as it was. */
 uint32_t desk_rule_case(const uint8_t *record, size_t len, uint8_t *out, size_t out_len);
 
-/* Rules a sheet, case by case and in order: 96 bytes for each ruled case, 12 for each refused one, the bytes after them kept.
- * `out` must have room for 96 bytes per case, whatever the cases are; a sheet refused whole leaves it as it was. */
+/* Rules a sheet, case by case and in order, stepping by the length of each: 96 bytes for each ruled case, 12 for each refused one,
+ * the bytes after them kept. `out` must have room for 96 bytes per case, whatever the cases are; a sheet refused whole leaves it as
+ * it was. It is walked to its end before anything is ruled. */
 struct desk_sheet desk_rule_sheet(const uint8_t *sheet, size_t len, uint8_t *out, size_t out_len);
 
 /* Prints the rulings of a sheet at `out`, as lines of text, and gives the bytes of text. No zero byte ends them; the bytes
@@ -246,9 +257,10 @@ struct desk_best desk_best_quotes(const uint8_t *quotes, size_t len, uint32_t tr
 /* Tells the number of quotes strictly before `trade_time`: 0 also where the list or the time is refused (20 to 23). */
 uint64_t desk_quotes_before(const uint8_t *quotes, size_t len, uint32_t trade_time);
 
-/* Fills the best bid and offer at a case's execution into the case: 0, and DESK_CASE_AT_BID to DESK_CASE_AT_OFFER_SIZE (bytes 20
- * to 35 of `record`) written, every other byte kept; or the number of the first test that fails (1, 2 to 9, then 20 to 22), and
- * `record` as it was. It finds the number of quotes before the trade itself, and does not tell how many it examined. */
+/* Fills the best bid and offer at a case's execution into the case, of either kind: 0, and DESK_CASE_AT_BID to
+ * DESK_CASE_AT_OFFER_SIZE (bytes 20 to 35 of `record`) written, every other byte kept; or the number of the first test that fails
+ * (1, 2 to 9, then 20 to 22), and `record` as it was. It finds the number of quotes before the trade itself, and does not tell how
+ * many it examined. */
 uint32_t desk_fill_case(const uint8_t *quotes, size_t len, uint8_t *record, size_t record_len);
 
 #ifdef __cplusplus

@@ -1,5 +1,5 @@
-/* Every field of a case record, of a quote and of a ruling, written under the header's names, each with a value of its own: the
- * test compares the 88, the 28 and the 32 bytes with those of the harness's own records. */
+/* Every field of a case record of both kinds, of a quote and of a ruling, written under the header's names, each with a value of
+ * its own: the test compares the 88, 92, 28 and 32 bytes with those of the harness's own records. */
 
 #include <stdio.h>
 #include <string.h>
@@ -41,6 +41,14 @@ static void put_case(uint8_t record[DESK_CASE_BYTES])
     put_u32(record + DESK_CASE_AT_LAST_ZERO, 0);
 }
 
+static void put_wide_case(uint8_t record[DESK_WIDE_CASE_BYTES])
+{
+    put_case(record);
+    put_u16(record + DESK_AT_LENGTH, DESK_WIDE_CASE_BYTES);
+    put_u16(record + DESK_AT_KIND, DESK_KIND_WIDE_CASE);
+    put_u32(record + DESK_CASE_AT_DIFFERENTIAL, 110);
+}
+
 static void put_quote(uint8_t record[DESK_QUOTE_BYTES])
 {
     memset(record, 255, DESK_QUOTE_BYTES);
@@ -73,11 +81,14 @@ static void put_ruling(uint8_t record[DESK_RULING_BYTES])
 
 int main(void)
 {
-    uint8_t records[DESK_CASE_BYTES + DESK_QUOTE_BYTES + DESK_RULING_BYTES];
+    uint8_t records[DESK_CASE_BYTES + DESK_WIDE_CASE_BYTES + DESK_QUOTE_BYTES + DESK_RULING_BYTES];
+    uint8_t *wide = records + DESK_CASE_BYTES;
+    uint8_t *quote = wide + DESK_WIDE_CASE_BYTES;
 
     put_case(records);
-    put_quote(records + DESK_CASE_BYTES);
-    put_ruling(records + DESK_CASE_BYTES + DESK_QUOTE_BYTES);
+    put_wide_case(wide);
+    put_quote(quote);
+    put_ruling(quote + DESK_QUOTE_BYTES);
     if (fwrite(records, 1, sizeof records, stdout) != sizeof records || fflush(stdout) != 0) {
         fputs("standard output cannot be written\n", stderr);
         return 2;

@@ -1,6 +1,6 @@
-/* The desk called from C: the page's own sheet of three cases is ruled, its answers are read and its rulings printed; and its
- * first case with other prices, for each origin of TP. It ends with 1 where an answer is another, with 2 where the text cannot be
- * written. */
+/* The desk called from C: the page's own sheet of three cases is ruled, its answers are read and its rulings printed; its first
+ * case with other prices, for each origin of TP; and the same as a case of kind 2, by itself and in a sheet. It ends with 1 where
+ * an answer is another, with 2 where the text cannot be written. */
 
 #include <stdio.h>
 #include <string.h>
@@ -101,12 +101,12 @@ static int is_third_refused(const uint8_t *refused)
 }
 
 /* Is the case ruled with that TP and that origin of it? */
-static int is_from(const uint8_t record[DESK_CASE_BYTES], uint32_t tp, uint8_t origin)
+static int is_from(const uint8_t *record, size_t len, uint32_t tp, uint8_t origin)
 {
     uint8_t answer[DESK_ANSWER_BYTES];
     const uint8_t *ruling = answer + DESK_ANSWER_AT_RULING;
 
-    return desk_rule_case(record, DESK_CASE_BYTES, answer, sizeof answer) == 0 &&
+    return desk_rule_case(record, len, answer, sizeof answer) == 0 &&
            get_u32(ruling + DESK_RULING_AT_TP) == tp && ruling[DESK_RULING_AT_ORIGIN] == origin;
 }
 
@@ -118,19 +118,69 @@ static const char *fault_of_origins(const uint8_t first[DESK_CASE_BYTES])
     /* Beside an offer of 1.000 an official's price of 1.100 has no say. */
     memcpy(record, first, sizeof record);
     put_u32(record + DESK_CASE_AT_OFFICIAL, 1100);
-    if (!is_from(first, 1000, DESK_ORIGIN_QUOTE) || !is_from(record, 1000, DESK_ORIGIN_QUOTE))
+    if (!is_from(first, DESK_CASE_BYTES, 1000, DESK_ORIGIN_QUOTE) || !is_from(record, sizeof record, 1000, DESK_ORIGIN_QUOTE))
         return "desk_rule_case: another origin than the quote";
     record[DESK_CASE_AT_DAY] = DESK_LATER;
-    if (!is_from(record, DESK_NONE, DESK_ORIGIN_NONE))
+    if (!is_from(record, sizeof record, DESK_NONE, DESK_ORIGIN_NONE))
         return "desk_rule_case: an origin beside reason 2";
     record[DESK_CASE_AT_DAY] = DESK_TRADE_DATE;
     put_u32(record + DESK_CASE_AT_OFFER, DESK_NONE);
     put_u32(record + DESK_CASE_AT_OFFER_SIZE, 0);
-    if (!is_from(record, 1100, DESK_ORIGIN_OFFICIAL))
+    if (!is_from(record, sizeof record, 1100, DESK_ORIGIN_OFFICIAL))
         return "desk_rule_case: another origin than the official";
     put_u32(record + DESK_CASE_AT_OFFICIAL, DESK_NONE);
-    if (!is_from(record, DESK_NONE, DESK_ORIGIN_NONE))
+    if (!is_from(record, sizeof record, DESK_NONE, DESK_ORIGIN_NONE))
         return "desk_rule_case: an origin while the case waits";
+    return NULL;
+}
+
+/* The first case with a bid of .900, .100 below its offer, as one of kind 2. */
+static void put_wide_case(uint8_t record[DESK_WIDE_CASE_BYTES], const uint8_t first[DESK_CASE_BYTES], uint32_t differential)
+{
+    memcpy(record, first, DESK_CASE_BYTES);
+    put_u16(record + DESK_AT_LENGTH, DESK_WIDE_CASE_BYTES);
+    put_u16(record + DESK_AT_KIND, DESK_KIND_WIDE_CASE);
+    put_u32(record + DESK_CASE_AT_BID, 900);
+    put_u32(record + DESK_CASE_AT_BID_SIZE, 10);
+    put_u32(record + DESK_CASE_AT_DIFFERENTIAL, differential);
+}
+
+/* What is wrong with cases of kind 2; NULL if nothing is. */
+static const char *fault_of_wide_cases(const uint8_t first[DESK_CASE_BYTES])
+{
+    uint8_t sheet[DESK_CASE_BYTES + DESK_WIDE_CASE_BYTES];
+    uint8_t *record = sheet + DESK_CASE_BYTES;
+    uint8_t out[2 * DESK_ANSWER_BYTES];
+    struct desk_sheet counts;
+
+    put_wide_case(record, first, 51);
+    if (!is_from(record, DESK_WIDE_CASE_BYTES, 1000, DESK_ORIGIN_QUOTE))
+        return "desk_rule_case: another origin than the quote, of kind 2";
+    put_wide_case(record, first, 50);
+    if (!is_from(record, DESK_WIDE_CASE_BYTES, DESK_NONE, DESK_ORIGIN_NONE))
+        return "desk_rule_case: an origin while wide quotes wait for an official";
+    put_u32(record + DESK_CASE_AT_OFFICIAL, 1100);
+    if (!is_from(record, DESK_WIDE_CASE_BYTES, 1100, DESK_ORIGIN_OFFICIAL))
+        return "desk_rule_case: another origin than the official, of kind 2";
+
+    memcpy(sheet, first, DESK_CASE_BYTES);
+    counts = desk_rule_sheet(sheet, sizeof sheet, out, sizeof out);
+    if (counts.refusal != 0 || counts.written != sizeof out || counts.ruled != 2 || counts.refused != 0)
+        return "desk_rule_sheet: other counts, of both kinds";
+    counts = desk_rule_sheet(sheet, sizeof sheet - 1, out, sizeof out);
+    if (counts.refusal != DESK_REFUSAL_SHEET_LENGTH || counts.written != 0)
+        return "desk_rule_sheet: a case cut short, and not refused";
+    if (desk_check_case(record, DESK_WIDE_CASE_BYTES - 1) != DESK_REFUSAL_CASE_LENGTH ||
+        desk_check_case(record, DESK_CASE_BYTES) != DESK_REFUSAL_LENGTH_OR_KIND)
+        return "desk_check_case: another number for a case of kind 2 that is cut";
+    put_u32(record + DESK_CASE_AT_DIFFERENTIAL, 0);
+    if (desk_check_case(record, DESK_WIDE_CASE_BYTES) != DESK_REFUSAL_PRICE)
+        return "desk_check_case: a differential of 0";
+    put_u16(record + DESK_AT_KIND, DESK_KIND_CASE);
+    counts = desk_rule_sheet(sheet, sizeof sheet, out, sizeof out);
+    if (desk_check_case(record, DESK_WIDE_CASE_BYTES) != DESK_REFUSAL_LENGTH_OR_KIND ||
+        counts.refusal != DESK_REFUSAL_SHEET_LENGTH)
+        return "kind 1 in 92 bytes";
     return NULL;
 }
 
@@ -169,6 +219,8 @@ int main(void)
     found = fault(sheet);
     if (!found)
         found = fault_of_origins(sheet);
+    if (!found)
+        found = fault_of_wide_cases(sheet);
     if (found) {
         fprintf(stderr, "%s\n", found);
         return 1;

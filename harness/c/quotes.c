@@ -139,24 +139,31 @@ static const char *fault_of_lookups(const uint8_t list[QUOTES * DESK_QUOTE_BYTES
     return NULL;
 }
 
-/* What is wrong with the filling; NULL if nothing is. The list must stay as it is, and so must what is around the case. */
-static const char *fault_of_filling(const uint8_t list[QUOTES * DESK_QUOTE_BYTES])
+/* What is wrong with the filling of a case of kind 1, or of kind 2 if it has a differential; NULL if nothing is. The list must
+ * stay as it is, and so must what is around the case. */
+static const char *fault_of_filling(const uint8_t list[QUOTES * DESK_QUOTE_BYTES], uint32_t differential)
 {
-    uint8_t expected[AROUND + DESK_CASE_BYTES + AROUND];
+    uint8_t expected[AROUND + DESK_WIDE_CASE_BYTES + AROUND];
     uint8_t lent[sizeof expected];
     uint8_t *record = lent + AROUND;
     size_t len = QUOTES * DESK_QUOTE_BYTES;
+    size_t case_len = differential ? DESK_WIDE_CASE_BYTES : DESK_CASE_BYTES;
 
     memset(expected, 165, sizeof expected);
     put_case(expected + AROUND);
+    if (differential) {
+        put_u16(expected + AROUND + DESK_AT_LENGTH, DESK_WIDE_CASE_BYTES);
+        put_u16(expected + AROUND + DESK_AT_KIND, DESK_KIND_WIDE_CASE);
+        put_u32(expected + AROUND + DESK_CASE_AT_DIFFERENTIAL, differential);
+    }
     memcpy(lent, expected, sizeof lent);
-    if (desk_fill_case(list, len - 1, record, DESK_CASE_BYTES) != DESK_REFUSAL_QUOTES_LENGTH ||
-        desk_fill_case(list, len - 1, record, DESK_CASE_BYTES - 1) != DESK_REFUSAL_CASE_LENGTH ||
+    if (desk_fill_case(list, len - 1, record, case_len) != DESK_REFUSAL_QUOTES_LENGTH ||
+        desk_fill_case(list, len - 1, record, case_len - 1) != DESK_REFUSAL_CASE_LENGTH ||
         desk_fill_case(NULL, 0, NULL, 0) != DESK_REFUSAL_CASE_LENGTH)
         return "desk_fill_case: another number";
     if (memcmp(lent, expected, sizeof lent) != 0)
         return "desk_fill_case: refused, and something is written";
-    if (desk_fill_case(list, len, record, DESK_CASE_BYTES) != 0 || desk_check_case(record, DESK_CASE_BYTES) != 0)
+    if (desk_fill_case(list, len, record, case_len) != 0 || desk_check_case(record, case_len) != 0)
         return "desk_fill_case: refused, or filled with what is refused";
     put_u32(expected + AROUND + DESK_CASE_AT_BID, 1000);
     put_u32(expected + AROUND + DESK_CASE_AT_OFFER, 1100);
@@ -189,7 +196,9 @@ int main(void)
     if (!found)
         found = fault_of_lookups(list, long_list);
     if (!found)
-        found = fault_of_filling(list);
+        found = fault_of_filling(list, 0);
+    if (!found)
+        found = fault_of_filling(list, 50);
     if (!found && memcmp(list, before, sizeof list) != 0)
         found = "the list is changed";
     if (found) {

@@ -8,16 +8,19 @@ use std::{env, fs};
 
 mod list;
 mod quotes;
+mod wide;
 
 fn main() {
     let page = PathBuf::from("../src/page");
     let out = PathBuf::from(env::var("OUT_DIR").expect("cargo sets it"));
     println!("cargo::rerun-if-changed=list.rs");
     println!("cargo::rerun-if-changed=quotes.rs");
+    println!("cargo::rerun-if-changed=wide.rs");
     println!("cargo::rerun-if-changed={}", page.display());
     let mut modules = String::new();
     let mut desks = String::new();
-    for (index, (file, edit)) in edits(list::MUTATIONS).enumerate() {
+    let whole = edits(list::MUTATIONS).chain(edits(wide::MUTATIONS));
+    for (index, (file, edit)) in whole.enumerate() {
         let folder = out.join(format!("m{index}"));
         copy_page(&page, &folder);
         write_mutant(&page, &folder, file, edit);
@@ -57,13 +60,26 @@ fn edits(
         .flat_map(|(file, edits)| edits.iter().map(move |edit| (*file, edit)))
 }
 
-/// The whole independent desk.
+/// What no mutant of the rulings is asked for; without it each is compiled sooner.
+const NOT_ASKED: [&str; 4] = ["filling", "quotes", "told", "writing"];
+
+/// The whole independent desk, as far as it rules.
 fn copy_page(page: &Path, folder: &Path) {
     fs::create_dir_all(folder).expect("a folder");
     for entry in fs::read_dir(page).expect("the page's folder") {
         let entry = entry.expect("a file");
         fs::copy(entry.path(), folder.join(entry.file_name())).expect("a copy");
     }
+    let root = fs::read_to_string(page.join("mod.rs")).expect("the module's own file");
+    let is_asked = |line: &&str| {
+        let names = |part: &str| {
+            line.starts_with(&format!("mod {part};"))
+                || line.starts_with(&format!("pub use {part}::"))
+        };
+        !NOT_ASKED.iter().any(|part| names(part))
+    };
+    let asked: Vec<&str> = root.lines().filter(is_asked).collect();
+    fs::write(folder.join("mod.rs"), asked.join("\n")).expect("the module's own file");
 }
 
 /// What looks up quotes, tells what was found and fills cases; the rest is the independent desk's own.

@@ -27,11 +27,44 @@ const BANDS: [(u32, u32, u32, u32); 7] = [
 /// Where the adjustment of an obvious error changes from .15 to .30.
 const THREE_DOLLARS: u32 = 3_000;
 
-/// An accepted case.
+/// An accepted case of either kind.
 pub fn accepted(random: &mut Random) -> Fields {
+    let wide = random.once_in(2);
+    accepted_of(random, wide)
+}
+
+/// An accepted case of kind 2 if it is to be one, else of kind 1.
+pub fn accepted_of(random: &mut Random, wide: bool) -> Fields {
+    if wide {
+        accepted_wide(random)
+    } else {
+        accepted_narrow(random)
+    }
+}
+
+fn accepted_narrow(random: &mut Random) -> Fields {
+    let mut fields = without_prices(random);
+    let (tp, amount) = tp_and_amount(random);
+    fields.execution = execution(random, fields.side, tp, amount);
+    let own = source(random, tp);
+    let other = any_price(random, tp, amount);
+    set_quotes(&mut fields, own, other);
+    set_other_prices(random, fields, tp, amount)
+}
+
+fn accepted_wide(random: &mut Random) -> Fields {
+    let mut fields = without_prices(random);
+    let (tp, amount) = tp_and_amount(random);
+    fields.execution = execution(random, fields.side, tp, amount);
+    let (own, other) = market(random, fields.side, tp, amount);
+    set_quotes(&mut fields, own, other);
+    let fields = fields.clone().wide(differential(random, &fields));
+    set_other_prices(random, fields, tp, amount)
+}
+
+/// All that the prices do not depend on.
+fn without_prices(random: &mut Random) -> Fields {
     let mut fields = Fields {
-        length: 88,
-        kind: 1,
         trade: random.word(),
         contracts: contracts(random),
         side: random.pick(&[1, 2]),
@@ -50,8 +83,6 @@ pub fn accepted(random: &mut Random) -> Fields {
     } else {
         set_times(random, &mut fields);
     }
-    set_prices(random, &mut fields);
-    set_agreement(random, &mut fields);
     fields
 }
 
@@ -139,18 +170,20 @@ fn seconds_since(random: &mut Random) -> u32 {
     }
 }
 
-/// The quotes, the official's price, the execution and the limits.
-fn set_prices(random: &mut Random, fields: &mut Fields) {
-    let (tp, amount) = tp_and_amount(random);
-    fields.execution = execution(random, fields.side, tp, amount);
-    let own = source(random, tp);
-    let other = any_price(random, tp, amount);
+/// The quote of the side in error and the other one.
+fn set_quotes(fields: &mut Fields, own: u32, other: u32) {
     (fields.bid, fields.offer) = if fields.side == BUY {
         (other, own)
     } else {
         (own, other)
     };
-    fields.official = official(random, own, tp, amount);
+}
+
+/// The official's price, the sizes of the quotes, the limits and the agreement.
+fn set_other_prices(random: &mut Random, mut fields: Fields, tp: u32, amount: u32) -> Fields {
+    let (own, _) = fields.own_quote();
+    let trusted = if fields.is_wide() { NONE } else { own };
+    fields.official = official(random, trusted, tp, amount);
     fields.bid_size = size(random, fields.bid, fields.contracts);
     fields.offer_size = size(random, fields.offer, fields.contracts);
     fields.buyer_limit = limit(random, fields.execution, tp, amount, |limit, execution| {
@@ -159,6 +192,8 @@ fn set_prices(random: &mut Random, fields: &mut Fields) {
     fields.seller_limit = limit(random, fields.execution, tp, amount, |limit, execution| {
         limit <= execution
     });
+    set_agreement(random, &mut fields);
+    fields
 }
 
 /// A TP, often beside an edge of its band, and an amount of the table for it, or one of another
@@ -230,8 +265,78 @@ fn any_price(random: &mut Random, tp: u32, amount: u32) -> u32 {
     }
 }
 
-/// The official's price: where the quote is none, TP mostly, and now and then none too; beside a
-/// quote anything, the same price and none among it.
+/// The two quotes of a case of kind 2, that of the side in error first: at TP or beside it or away
+/// from it, since the official's price is TP where they are wide; the other one mostly on its own
+/// side of the market, near or far.
+fn market(random: &mut Random, side: u8, tp: u32, amount: u32) -> (u32, u32) {
+    let own = match random.within(0, 11) {
+        0 => NONE,
+        1..=5 => tp,
+        6 | 7 => beside(random, tp).min(HIGHEST_PRICE),
+        _ => any_price(random, tp, amount),
+    };
+    if own == NONE || random.once_in(4) {
+        return (own, any_price(random, tp, amount));
+    }
+    if random.once_in(40) {
+        // As wide as a market can be, to a mill.
+        let (low, high) = (random.within(0, 1), HIGHEST_PRICE - random.within(0, 1));
+        return if side == BUY {
+            (high, low)
+        } else {
+            (low, high)
+        };
+    }
+    let apart = match random.within(0, 5) {
+        0 => random.within(0, 4),
+        1 => random.within(0, HIGHEST_PRICE),
+        2 => beside(random, amount),
+        3 => beside(random, 2 * amount),
+        _ => random.within(1, 600),
+    };
+    let below = (side == BUY) != random.once_in(6);
+    let other = if below {
+        own.saturating_sub(apart)
+    } else {
+        (own + apart).min(HIGHEST_PRICE)
+    };
+    (own, other)
+}
+
+/// A differential, mostly one that the quotes are twice as far apart as, or a mill more or less; or
+/// that they would be so by a rule that is easily taken for it.
+fn differential(random: &mut Random, fields: &Fields) -> u32 {
+    let apart = if fields.bid == NONE || fields.offer == NONE {
+        random.within(0, 2_000)
+    } else {
+        fields.bid.abs_diff(fields.offer)
+    };
+    let any = random.within(1, HIGHEST_PRICE);
+    let few = random.within(1, 300);
+    let differential = match random.within(0, 15) {
+        0..=7 => {
+            let half = apart / 2;
+            random.pick(&[
+                half,
+                half,
+                apart.div_ceil(2),
+                half + 1,
+                half.saturating_sub(1),
+            ])
+        }
+        8 => random.pick(&[apart, apart + 1, apart.saturating_sub(1)]),
+        9 => random.pick(&[2 * apart, apart / 4, apart / 3]),
+        10 => random.pick(&[1, 2, HIGHEST_PRICE, HIGHEST_PRICE - 1]),
+        // Twice the one is a distance that quotes can have, twice the other is none.
+        11 => random.pick(&[4_999_999, 5_000_000]),
+        12 => any,
+        _ => few,
+    };
+    differential.clamp(1, HIGHEST_PRICE)
+}
+
+/// The official's price: where no quote gives TP, TP mostly, and now and then none too; beside a
+/// quote that does anything, the same price and none among it.
 fn official(random: &mut Random, quote: u32, tp: u32, amount: u32) -> u32 {
     match random.within(0, 7) {
         0..=5 if quote == NONE => tp,

@@ -3,10 +3,11 @@
 
 use std::fmt::{self, Write};
 
-use crate::desk::TEXT_BYTES;
+use crate::desk::{DeskSheet, TEXT_BYTES};
 use crate::desks::Desk;
 use crate::fields::Fields;
 use crate::random::Random;
+use crate::sheets::{cases_of, cut};
 
 /// A difference, told in full: `expect` in a test prints it as it is.
 pub struct Difference(pub(crate) String);
@@ -72,6 +73,18 @@ pub(crate) fn same<T: PartialEq + fmt::Debug>(what: &str, left: T, right: T) -> 
     } else {
         Err(format!("{what}: {left:?} and {right:?}"))
     }
+}
+
+/// Every case of a sheet is ruled or refused, and none of a sheet that is refused whole: test 10 is for
+/// those that are no row of cases, and for no other.
+fn answered(sheet: &[u8], answer: &DeskSheet) -> Result<(), String> {
+    let cases = cases_of(sheet);
+    same("refused 10", answer.refusal == 10, cases.is_none())?;
+    let answered = match answer.refusal {
+        0 => cases.unwrap_or(0) as u64,
+        _ => 0,
+    };
+    same("cases", answer.ruled + answer.refused, answered).map(|_| ())
 }
 
 /// What a call on a case gave, on both desks.
@@ -141,6 +154,7 @@ impl<'a> Comparison<'a> {
                     96 * left.ruled + 12 * left.refused,
                 )
             })
+            .and_then(|_| answered(sheet, &left))
             .and_then(|_| self.buffers.judge(written));
         match judged {
             Ok(()) => Ok((left.refusal, &self.buffers.left[..written])),
@@ -175,7 +189,7 @@ impl<'a> Comparison<'a> {
             let _ = writeln!(text, "answer buffer of {out_len} bytes");
         }
         let _ = writeln!(text, "input of {} bytes", input.len());
-        let (cases, rest) = input.as_chunks::<88>();
+        let (cases, rest) = shown_as(input);
         for (index, case) in cases.iter().take(CASES_SHOWN).enumerate() {
             let _ = writeln!(text, "case {index}: {}", hex(case));
             let _ = write!(text, "{}", Fields::decode(case));
@@ -187,6 +201,14 @@ impl<'a> Comparison<'a> {
             let _ = writeln!(text, "rest: {}", hex(rest));
         }
         Difference(text)
+    }
+}
+
+/// One case whatever its head says, or the cases of a sheet and what no case is.
+fn shown_as(input: &[u8]) -> (Vec<&[u8]>, &[u8]) {
+    match input.len() {
+        88 | 92 => (vec![input], &[]),
+        _ => cut(input),
     }
 }
 

@@ -3,29 +3,45 @@
 //!
 //! Numbers, outcomes, reasons and origins are read from the answers on which both desks agree; way,
 //! TP and band come from the independent desk, and which prices stand in a record from its fields.
+//! What is request L4's own is counted in `wide_coverage` and `sheet_coverage`.
 
 use std::collections::BTreeMap;
 use std::fmt;
 
 use crate::compare::CaseAnswer;
-use crate::fields::{Fields, RulingFields, NONE};
+use crate::fields::{Fields, RulingFields, KIND_1, KIND_2, NONE};
+use crate::mixture::PAIRS;
 use crate::page::{self, Case, Mills, Side, Way};
+use crate::sheet_coverage::Row;
+use crate::stream::Seen;
+use crate::wide_coverage::Wide;
 
 /// Something that a case can reach.
 #[derive(Clone, Copy, Debug, PartialEq, Eq, PartialOrd, Ord)]
 enum Reached {
-    /// The number given back; 0 is ruled.
-    Number(u32),
+    /// The number given back to a case of so many bytes; 0 is ruled.
+    Number {
+        bytes: usize,
+        number: u32,
+    },
+    /// The pair of length and kind in a case of so many bytes that is refused for it.
+    Pair {
+        bytes: usize,
+        pair: (u16, u16),
+    },
     Outcome(u8),
     Reason(u8),
     Way(&'static str),
-    /// The origin of TP that is told with this reason.
+    /// The origin of TP that is told with this reason to a case of this kind.
     Origin {
+        kind: &'static str,
         reason: u8,
         origin: u8,
     },
-    /// The origin that is told over these prices, where TP is asked for and where it is not.
+    /// The origin that is told over these prices, where TP is asked for and where it is not, and no
+    /// quotes are wide.
     Prices {
+        kind: &'static str,
         asked: &'static str,
         side: &'static str,
         prices: Prices,
@@ -42,16 +58,22 @@ enum Reached {
         side: &'static str,
         place: &'static str,
     },
+    /// What is kind 2's own.
+    Wide(Wide),
+    /// What is a sheet's own.
+    Row(Row),
 }
 
+const KINDS: [&str; 2] = ["kind 1", "kind 2"];
 const NUMBERS: [u32; 10] = [0, 2, 3, 4, 5, 6, 7, 8, 9, 11];
 const WAYS: [&str; 4] = ["obvious", "opening", "catastrophic", "none open"];
 const ASKED: [&str; 3] = ["TP asked for", "reason 2", "reason 3"];
 const BESIDE: [&str; 3] = ["none", "at TP", "off TP"];
-const ZEROS: [&str; 3] = [
+const ZEROS: [&str; 4] = [
     "a quote of size 0",
     "a quote with a size",
     "an official's price",
+    "an official's price beside wide quotes",
 ];
 const COVERS: [&str; 3] = ["every contract", "some", "no contract"];
 const BANDS_FROM: [u32; 7] = [0, 2_000, 5_001, 10_001, 20_001, 50_001, 100_001];
@@ -147,7 +169,11 @@ impl Reached {
     /// All that a long run should reach, and what is out of reach; there is nothing else.
     fn all() -> Vec<Reached> {
         let mut all = Vec::new();
-        all.extend(NUMBERS.map(Reached::Number));
+        for (bytes, right) in [(88, KIND_1), (92, KIND_2)] {
+            all.extend(NUMBERS.map(|number| Reached::Number { bytes, number }));
+            let wrong = PAIRS.into_iter().filter(|&pair| pair != right);
+            all.extend(wrong.map(|pair| Reached::Pair { bytes, pair }));
+        }
         all.extend((0..=3).map(Reached::Outcome));
         all.extend((1..=14).map(Reached::Reason));
         all.extend(WAYS.map(Reached::Way));
@@ -156,20 +182,25 @@ impl Reached {
                 2 | 3 | 14 => &[0],
                 _ => &[1, 2],
             };
-            all.extend(
-                origins
-                    .iter()
-                    .map(|&origin| Reached::Origin { reason, origin }),
-            );
-        }
-        for asked in ASKED {
-            for side in SIDES {
-                all.extend(Prices::all().into_iter().map(|prices| Reached::Prices {
-                    asked,
-                    side,
-                    prices,
-                    origin: prices.origin(asked),
+            for kind in KINDS {
+                all.extend(origins.iter().map(|&origin| Reached::Origin {
+                    kind,
+                    reason,
+                    origin,
                 }));
+            }
+        }
+        for kind in KINDS {
+            for asked in ASKED {
+                for side in SIDES {
+                    all.extend(Prices::all().into_iter().map(|prices| Reached::Prices {
+                        kind,
+                        asked,
+                        side,
+                        prices,
+                        origin: prices.origin(asked),
+                    }));
+                }
             }
         }
         all.extend(ZEROS.map(Reached::Zero));
@@ -186,6 +217,8 @@ impl Reached {
                 }
             }
         }
+        all.extend(Wide::all(&WAYS, &SIDES).into_iter().map(Reached::Wide));
+        all.extend(Row::all().into_iter().map(Reached::Row));
         all
     }
 }
@@ -193,20 +226,26 @@ impl Reached {
 impl fmt::Display for Reached {
     fn fmt(&self, out: &mut fmt::Formatter) -> fmt::Result {
         match self {
-            Reached::Number(0) => write!(out, "ruled"),
-            Reached::Number(number) => write!(out, "refused {number}"),
+            Reached::Number { bytes, number: 0 } => write!(out, "{bytes} bytes ruled"),
+            Reached::Number { bytes, number } => write!(out, "{bytes} bytes refused {number}"),
+            Reached::Pair { bytes, pair } => {
+                write!(out, "{bytes} bytes refused 2: the pair {pair:?}")
+            }
             Reached::Outcome(outcome) => write!(out, "outcome {outcome}"),
             Reached::Reason(reason) => write!(out, "reason {reason}"),
             Reached::Way(way) => write!(out, "way: {way}"),
-            Reached::Origin { reason, origin } => {
-                write!(out, "reason {reason} with origin {origin}")
-            }
+            Reached::Origin {
+                kind,
+                reason,
+                origin,
+            } => write!(out, "{kind}: reason {reason} with origin {origin}"),
             Reached::Prices {
+                kind,
                 asked,
                 side,
                 prices,
                 origin,
-            } => write!(out, "{asked}, {side}: {prices}: origin {origin}"),
+            } => write!(out, "{kind}, {asked}, {side}: {prices}: origin {origin}"),
             Reached::Zero(source) => write!(out, "TP of zero from {source}"),
             Reached::Cover(cover) => write!(out, "opening adjustment covers: {cover}"),
             Reached::Minimum {
@@ -218,30 +257,65 @@ impl fmt::Display for Reached {
                 out,
                 "TP from {band_from} on: {side} {place} the {column} minimum"
             ),
+            Reached::Wide(wide) => write!(out, "{wide}"),
+            Reached::Row(row) => write!(out, "{row}"),
         }
     }
 }
 
-/// Cases counted by what they reach.
+/// Cases and sheets counted by what they reach.
 #[derive(Default)]
 pub struct Coverage(BTreeMap<Reached, u64>);
 
 impl Coverage {
-    pub fn add(&mut self, record: &[u8; 88], answer: &CaseAnswer) {
-        self.count(Reached::Number(answer.number));
-        let Some(bytes) = answer.bytes else {
-            return;
-        };
-        let ruling = RulingFields::of_answer(bytes);
+    pub fn add(&mut self, seen: Seen) {
+        match seen {
+            Seen::Case { record, answer } => self.add_case(record, &answer),
+            Seen::Sheet {
+                sheet,
+                out_len,
+                refusal,
+                answers,
+            } => {
+                for row in Row::of_sheet(sheet, out_len, refusal, answers) {
+                    self.count(Reached::Row(row));
+                }
+            }
+        }
+    }
+
+    fn add_case(&mut self, record: &[u8], answer: &CaseAnswer) {
+        let fields = Fields::decode(record);
+        let (bytes, number) = (record.len(), answer.number);
+        self.count(Reached::Number { bytes, number });
+        let pair = (fields.length, fields.kind);
+        if number == 2 && PAIRS.contains(&pair) {
+            self.count(Reached::Pair { bytes, pair });
+        }
+        if let Some(wide) = Wide::of_differential(&fields, number) {
+            self.count(Reached::Wide(wide));
+        }
+        if let Some(answer) = answer.bytes {
+            self.add_ruling(record, &fields, &RulingFields::of_answer(answer));
+        }
+    }
+
+    fn add_ruling(&mut self, record: &[u8], fields: &Fields, ruling: &RulingFields) {
         self.count(Reached::Outcome(ruling.outcome));
         self.count(Reached::Reason(ruling.reason));
-        self.count_origin(&Fields::decode(record), &ruling);
+        self.count_origin(fields, ruling);
         let case = page::read_case(record).expect("a ruled case is accepted");
         let way = page::open_way(&case);
         let tp = page::theoretical_price(&case);
         self.count(Reached::Way(way_name(way)));
+        if fields.differential.is_some() {
+            let (way, side) = (way_name(way), side_name(fields));
+            for wide in Wide::of_ruling(way, side, fields, &case, ruling) {
+                self.count(Reached::Wide(wide));
+            }
+        }
         if way == Some(Way::Opening) && ruling.outcome == 1 {
-            self.count(Reached::Cover(cover_name(&ruling)));
+            self.count(Reached::Cover(cover_name(ruling)));
         }
         if let (Some(way), Some(tp)) = (way, tp) {
             self.count_minimum(&case, way, tp.price());
@@ -250,17 +324,25 @@ impl Coverage {
 
     fn count_origin(&mut self, fields: &Fields, ruling: &RulingFields) {
         let &RulingFields { reason, origin, .. } = ruling;
-        self.count(Reached::Origin { reason, origin });
-        self.count(Reached::Prices {
-            asked: match reason {
-                2 => ASKED[1],
-                3 => ASKED[2],
-                _ => ASKED[0],
-            },
-            side: if fields.side == 1 { SIDES[0] } else { SIDES[1] },
-            prices: Prices::of(fields),
+        let kind = KINDS[usize::from(fields.differential.is_some())];
+        self.count(Reached::Origin {
+            kind,
+            reason,
             origin,
         });
+        if !fields.is_wide() {
+            self.count(Reached::Prices {
+                kind,
+                asked: match reason {
+                    2 => ASKED[1],
+                    3 => ASKED[2],
+                    _ => ASKED[0],
+                },
+                side: side_name(fields),
+                prices: Prices::of(fields),
+                origin,
+            });
+        }
         if ruling.tp == 0 {
             self.count(Reached::Zero(zero_name(fields)));
         }
@@ -328,8 +410,13 @@ fn way_name(way: Option<Way>) -> &'static str {
     }
 }
 
+fn side_name(fields: &Fields) -> &'static str {
+    SIDES[usize::from(fields.side != 1)]
+}
+
 fn zero_name(fields: &Fields) -> &'static str {
     match fields.own_quote() {
+        _ if fields.is_wide() => ZEROS[3],
         (NONE, _) => ZEROS[2],
         (_, 0) => ZEROS[0],
         _ => ZEROS[1],

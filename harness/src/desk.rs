@@ -3,13 +3,16 @@
 
 use std::ptr;
 
-/// A case record.
+/// A case record of kind 1.
 pub const CASE_BYTES: usize = 88;
+
+/// A case record of kind 2, which ends with the permitted differential.
+pub const WIDE_CASE_BYTES: usize = 92;
 
 /// A ruling and two notices.
 pub const ANSWER_BYTES: usize = 96;
 
-/// The longest sheet: 600 cases.
+/// The longest sheet: 600 cases of kind 1, or 573 of kind 2, or fewer than 600 of both.
 pub const SHEET_BYTES: usize = 52_800;
 
 /// The bytes of text that [`print_sheet`] has room for.

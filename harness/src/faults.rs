@@ -1,7 +1,7 @@
 //! Faults: each makes an accepted case fail one test, in every field and on every side that the
 //! test has.
 
-use crate::fields::{Fields, NONE};
+use crate::fields::{Fields, KIND_1, KIND_2, NONE};
 
 /// A change of an accepted case, and the number of the test that it then fails first.
 pub struct Fault {
@@ -27,7 +27,7 @@ impl Fault {
 /// A way to one field, so that faults can be listed by field.
 type Place<T> = (&'static str, fn(&mut Fields) -> &mut T);
 
-/// Every single fault.
+/// Every single fault that a case of kind 1 can have, and that one of kind 2 can have too.
 pub fn faults() -> Vec<Fault> {
     let mut all = Vec::new();
     length_or_kind(&mut all);
@@ -38,6 +38,13 @@ pub fn faults() -> Vec<Fault> {
     time(&mut all);
     limit(&mut all);
     agreement(&mut all);
+    all
+}
+
+/// Every single fault that a case of kind 2 can have.
+pub fn wide_faults() -> Vec<Fault> {
+    let mut all = faults();
+    differential(&mut all);
     all
 }
 
@@ -56,12 +63,62 @@ fn set<T: Copy + std::fmt::Debug + 'static>(
     }
 }
 
-/// Test 2.
+/// Test 2: what is the length or kind of no case; and what is that of the other kind, in one of the
+/// two fields or in both.
 fn length_or_kind(all: &mut Vec<Fault>) {
-    let lengths = [0, 1, 32, 87, 89, 92, 96, 88 + 256, 88 << 8, u16::MAX];
+    let lengths = [
+        0,
+        1,
+        32,
+        87,
+        89,
+        90,
+        91,
+        93,
+        94,
+        96,
+        88 + 256,
+        92 + 256,
+        88 << 8,
+        92 << 8,
+        u16::MAX,
+    ];
     set(all, 2, ("length", |f| &mut f.length), &lengths);
-    let kinds = [0, 2, 16, 17, 18, 1 << 8, 1 + 256, u16::MAX];
+    let kinds = [0, 3, 16, 17, 18, 1 << 8, 2 << 8, 1 + 256, 2 + 256, u16::MAX];
     set(all, 2, ("kind", |f| &mut f.kind), &kinds);
+    all.push(Fault::new(2, "the other kind's length", |fields| {
+        fields.length = other_pair(fields).0;
+    }));
+    all.push(Fault::new(2, "the other kind's kind", |fields| {
+        fields.kind = other_pair(fields).1;
+    }));
+    all.push(Fault::new(
+        2,
+        "the other kind's length and kind",
+        |fields| {
+            (fields.length, fields.kind) = other_pair(fields);
+        },
+    ));
+    all.push(Fault::new(
+        2,
+        "length and kind in each other's place",
+        |fields| {
+            (fields.length, fields.kind) = (fields.kind, fields.length);
+        },
+    ));
+    for pair in [(88, 3), (92, 3), (94, 3)] {
+        all.push(Fault::new(2, format!("the pair {pair:?}"), move |fields| {
+            (fields.length, fields.kind) = pair;
+        }));
+    }
+}
+
+/// The pair that belongs to a record of the other length.
+fn other_pair(fields: &Fields) -> (u16, u16) {
+    match fields.differential {
+        None => KIND_2,
+        Some(_) => KIND_1,
+    }
 }
 
 /// Test 3.
@@ -133,6 +190,16 @@ fn price(all: &mut Vec<Fault>) {
     ];
     for place in may_be_none {
         set(all, 5, place, &above);
+    }
+}
+
+/// Test 5 of kind 2: "1 to 9,999,999".
+fn differential(all: &mut Vec<Fault>) {
+    for mills in [0, 10_000_000, 3_691_315_200, NONE - 1, NONE] {
+        let name = format!("differential {mills}");
+        all.push(Fault::new(5, name, move |fields| {
+            fields.differential = Some(mills);
+        }));
     }
 }
 

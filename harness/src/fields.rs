@@ -1,9 +1,13 @@
-//! The 88 bytes of a case record, the 28 of a quote and the 32 of a ruling, field by field and
+//! The 88 or 92 bytes of a case record, the 28 of a quote and the 32 of a ruling, field by field and
 //! unjudged: what the generators set, what a difference prints and what a test looks at.
 
 use std::fmt;
 
 pub const NONE: u32 = u32::MAX;
+
+/// The pair of length and kind at the head of a case of kind 1, and of one of kind 2.
+pub const KIND_1: (u16, u16) = (88, 1);
+pub const KIND_2: (u16, u16) = (92, 2);
 
 /// A field of the record as it stands in the bytes.
 trait Field {
@@ -63,16 +67,19 @@ impl Field for [u8; 4] {
     }
 }
 
-/// A record's fields, in their order and without a gap.
+/// A record's fields, in their order and without a gap; and a number that may come behind them.
 macro_rules! fields {
-    ($fields:ident, $bytes:literal: $($name:ident: $kind:ty,)*) => {
+    ($fields:ident, $bytes:literal, $encode:ident, $decode:ident:
+     $($name:ident: $kind:ty,)*
+     $(; $behind:ident)?) => {
         #[derive(Clone, Debug, PartialEq, Eq)]
         pub struct $fields {
             $(pub $name: $kind,)*
+            $(pub $behind: Option<u32>,)?
         }
 
         impl $fields {
-            pub fn encode(&self) -> [u8; $bytes] {
+            pub fn $encode(&self) -> [u8; $bytes] {
                 let mut record = [0; $bytes];
                 let mut rest = &mut record[..];
                 $(
@@ -84,7 +91,7 @@ macro_rules! fields {
                 record
             }
 
-            pub fn decode(record: &[u8; $bytes]) -> $fields {
+            pub fn $decode(record: &[u8; $bytes]) -> $fields {
                 let mut rest = &record[..];
                 let fields = $fields {
                     $($name: {
@@ -92,6 +99,7 @@ macro_rules! fields {
                         rest = after;
                         Field::of_bytes(bytes)
                     },)*
+                    $($behind: None,)?
                 };
                 assert!(rest.is_empty(), "the fields fill the record");
                 fields
@@ -99,7 +107,10 @@ macro_rules! fields {
 
             /// Every number with its bytes in the other order.
             pub fn turned(&self) -> $fields {
-                $fields { $($name: self.$name.turned(),)* }
+                $fields {
+                    $($name: self.$name.turned(),)*
+                    $($behind: self.$behind.map(|number| number.turned()),)?
+                }
             }
         }
 
@@ -111,13 +122,18 @@ macro_rules! fields {
                     at += size_of::<$kind>();
                 )*
                 debug_assert_eq!(at, $bytes);
+                $(
+                    if let Some(number) = &self.$behind {
+                        writeln!(out, "  {at:>2} {:<14} {}", stringify!($behind), number.shown())?;
+                    }
+                )?
                 Ok(())
             }
         }
     };
 }
 
-fields! { Fields, 88:
+fields! { Fields, 88, facts, of_facts:
     length: u16,
     kind: u16,
     trade: u32,
@@ -147,9 +163,10 @@ fields! { Fields, 88:
     agreed_after: u32,
     accepted_after: u32,
     zero_84: u32,
+    ; differential
 }
 
-fields! { QuoteFields, 28:
+fields! { QuoteFields, 28, encode, decode:
     length: u16,
     kind: u16,
     exchange: u32,
@@ -160,7 +177,7 @@ fields! { QuoteFields, 28:
     offer_size: u32,
 }
 
-fields! { RulingFields, 32:
+fields! { RulingFields, 32, encode, decode:
     length: u16,
     kind: u16,
     trade: u32,
@@ -210,7 +227,72 @@ impl Fields {
             agreed_after: 0,
             accepted_after: NONE,
             zero_84: 0,
+            differential: None,
         }
+    }
+
+    /// The same case as one of kind 2.
+    pub fn wide(self, differential: u32) -> Fields {
+        Fields {
+            differential: Some(differential),
+            ..self
+        }
+        .well_headed()
+    }
+
+    /// The same facts as a case of kind 1.
+    pub fn narrow(self) -> Fields {
+        Fields {
+            differential: None,
+            ..self
+        }
+        .well_headed()
+    }
+
+    /// With the pair of length and kind that belongs to its bytes.
+    pub fn well_headed(self) -> Fields {
+        let (length, kind) = match self.differential {
+            None => KIND_1,
+            Some(_) => KIND_2,
+        };
+        Fields {
+            length,
+            kind,
+            ..self
+        }
+    }
+
+    /// 88 bytes, and four more where there is a differential, whatever the head says.
+    pub fn encode(&self) -> Vec<u8> {
+        let mut record = self.facts().to_vec();
+        record.extend(
+            self.differential
+                .iter()
+                .flat_map(|mills| mills.to_le_bytes()),
+        );
+        record
+    }
+
+    /// Of 88 or 92 bytes, whatever the head says.
+    pub fn decode(record: &[u8]) -> Fields {
+        let (facts, behind) = record.split_first_chunk().expect("88 bytes");
+        let differential =
+            (!behind.is_empty()).then(|| u32::from_le_bytes(behind.try_into().expect("92 bytes")));
+        Fields {
+            differential,
+            ..Fields::of_facts(facts)
+        }
+    }
+
+    /// Both quotes are there, and the offer is at least twice the differential above the bid.
+    pub fn is_wide(&self) -> bool {
+        let twice = 2 * i64::from(self.differential.unwrap_or(NONE));
+        self.bid != NONE && self.offer != NONE && self.spread() >= twice
+    }
+
+    /// How far the offer is above the bid; below zero in a crossed market.
+    pub fn spread(&self) -> i64 {
+        i64::from(self.offer) - i64::from(self.bid)
     }
 
     /// Price and size of the quote that comes first for TP: "best offer for a buy, best bid for a

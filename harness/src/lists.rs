@@ -180,7 +180,7 @@ impl Lists {
     /// A case, mostly an accepted one that was executed beside a quote and filed soon after.
     pub fn case(&self, random: &mut Random, list: &[u8]) -> Vec<u8> {
         if random.once_in(8) {
-            return self.cases.record(random).to_vec();
+            return self.cases.record(random);
         }
         let mut fields = accepted(random);
         fields.executed_at = trade_time(random, list).min(LAST_SECOND);
@@ -190,7 +190,7 @@ impl Lists {
         if random.once_in(4) {
             without_quotes(&mut fields);
         }
-        let mut case = fields.encode().to_vec();
+        let mut case = fields.encode();
         if random.once_in(40) {
             case.resize(random.within(0, 200) as usize, 0);
         }

@@ -150,8 +150,8 @@ fn shown_list(quotes: &[u8]) -> String {
 
 fn shown_case(case: &[u8]) -> String {
     let mut text = format!("case of {} bytes: {}\n", case.len(), hex(case));
-    if let Ok(record) = case.try_into() {
-        let _ = write!(text, "{}", Fields::decode(record));
+    if let 88 | 92 = case.len() {
+        let _ = write!(text, "{}", Fields::decode(case));
     }
     text
 }

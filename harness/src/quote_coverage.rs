@@ -9,8 +9,9 @@ use std::collections::BTreeMap;
 use std::fmt;
 
 use crate::desk::DeskBest;
-use crate::fields::{QuoteFields, NONE};
+use crate::fields::{Fields, QuoteFields, NONE};
 use crate::page::{self, Refusal};
+use crate::quote_compare::FillAnswer;
 use crate::quote_faults::{Counted, NUMBER_FAULTS};
 use crate::quote_stream::Agreed;
 use crate::walk_coverage::{Walk, WALKS};
@@ -20,8 +21,13 @@ use crate::walk_coverage::{Walk, WALKS};
 enum Reached {
     /// The number that a lookup gives; 0 is an answer.
     Number(u64),
-    /// The number that filling gives.
-    Filled(u32),
+    /// The number that filling gives to a case of so many bytes; of another length than a case's, 0.
+    Filled {
+        bytes: usize,
+        number: u32,
+    },
+    /// How the quotes of a filled case of kind 2 stand.
+    FilledWide(bool),
     /// Two tests that both fail.
     Both(u32, u32),
     /// Where a list that fails 21 and 22 does so first.
@@ -108,7 +114,15 @@ impl Reached {
     fn all() -> Vec<Reached> {
         let mut all = vec![Reached::Number(0)];
         all.extend((20..=23).chain([28]).map(Reached::Number));
-        all.extend((0..=9).chain(20..=22).map(Reached::Filled));
+        all.push(Reached::Filled {
+            bytes: 0,
+            number: 1,
+        });
+        for bytes in [88, 92] {
+            let numbers = [0].into_iter().chain(2..=9).chain(20..=22);
+            all.extend(numbers.map(|number| Reached::Filled { bytes, number }));
+        }
+        all.extend([false, true].map(Reached::FilledWide));
         all.extend(PAIRS.map(|(first, second)| Reached::Both(first, second)));
         all.extend(FIRSTS.map(Reached::First));
         all.extend(COUNTS.map(Reached::Quotes));
@@ -137,8 +151,15 @@ impl fmt::Display for Reached {
         match self {
             Reached::Number(0) => write!(out, "looked up"),
             Reached::Number(number) => write!(out, "lookup refused {number}"),
-            Reached::Filled(0) => write!(out, "filled"),
-            Reached::Filled(number) => write!(out, "filling refused {number}"),
+            Reached::Filled { bytes, number: 0 } => write!(out, "{bytes} bytes filled"),
+            Reached::Filled { bytes: 0, number } => {
+                write!(out, "another length: filling refused {number}")
+            }
+            Reached::Filled { bytes, number } => {
+                write!(out, "{bytes} bytes: filling refused {number}")
+            }
+            Reached::FilledWide(true) => write!(out, "filled, and wide"),
+            Reached::FilledWide(false) => write!(out, "filled, and not wide by its differential"),
             Reached::Both(first, second) => write!(out, "both {first} and {second}"),
             Reached::First(what) => write!(out, "21 and 22, first {what}"),
             Reached::Quotes(count) => write!(out, "{count} quotes"),
@@ -164,7 +185,7 @@ pub struct QuoteCoverage(BTreeMap<Reached, u64>);
 impl QuoteCoverage {
     pub fn add(&mut self, call: Agreed) {
         match call {
-            Agreed::Fill(answer) => self.count(Reached::Filled(answer.number)),
+            Agreed::Fill(answer) => self.count_filled(answer),
             Agreed::Best {
                 list,
                 trade_time,
@@ -185,6 +206,18 @@ impl QuoteCoverage {
                 trade_time,
                 answer,
             } => self.count_told(list, trade_time, answer),
+        }
+    }
+
+    fn count_filled(&mut self, FillAnswer { number, case }: &FillAnswer) {
+        let bytes = match case.len() {
+            bytes @ (88 | 92) => bytes,
+            _ => 0,
+        };
+        let number = *number;
+        self.count(Reached::Filled { bytes, number });
+        if (bytes, number) == (92, 0) {
+            self.count(Reached::FilledWide(Fields::decode(case).is_wide()));
         }
     }
 

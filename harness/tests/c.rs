@@ -1,6 +1,6 @@
 //! The desk from C: `c/page.c` compiles without a warning against `include/desk.h`, reads the answers
-//! under its names and prints the page's five lines; `c/quotes.c` counts and looks up quotes and fills a
-//! case; `c/fields.c` writes every field of a record. The header's numbers, and the first line of a
+//! under its names and prints the page's five lines; `c/quotes.c` counts and looks up quotes and fills
+//! cases of both kinds; `c/fields.c` writes every field of a record. The header's numbers, and the first line of a
 //! report in it, are those of the independent desk, and it is also good C++.
 
 use std::fmt::Debug;
@@ -8,8 +8,9 @@ use std::fs::{self, File};
 use std::path::{Path, PathBuf};
 use std::process::{Command, Output};
 
+use harness::desk;
 use harness::fields::{Fields, QuoteFields, RulingFields, NONE};
-use harness::page::{print_sheet, Origin, Outcome, Reason, Refusal};
+use harness::page::{self, print_sheet, Origin, Outcome, Reason, Refusal};
 
 const LINES: &str = "\
 TRADE OUTCOME REASON TP NEW ADJ NUL OLD FROM
@@ -81,8 +82,8 @@ fn the_c_program_looks_up_quotes_and_fills_a_case() {
 #[test]
 fn the_header_names_every_field_of_a_record() {
     let case = Fields {
-        length: 88,
-        kind: 1,
+        length: 92,
+        kind: 2,
         trade: 101,
         execution: 102,
         contracts: 1_000_000,
@@ -110,6 +111,7 @@ fn the_header_names_every_field_of_a_record() {
         agreed_after: 86_400,
         accepted_after: 109,
         zero_84: 0,
+        differential: Some(110),
     };
     let quote = QuoteFields {
         length: 28,
@@ -136,7 +138,9 @@ fn the_header_names_every_field_of_a_record() {
         standing: 306,
     };
     let output = run(&mut Command::new(compiled("fields")));
-    let (record, rest) = output.stdout.split_first_chunk().expect("88 bytes");
+    let (record, rest) = output.stdout.split_at(88);
+    assert_eq!(Fields::decode(record), case.clone().narrow());
+    let (record, rest) = rest.split_at(92);
     assert_eq!(Fields::decode(record), case);
     let (record, rest) = rest.split_first_chunk().expect("28 bytes");
     assert_eq!(QuoteFields::decode(record), quote);
@@ -211,6 +215,27 @@ fn the_header_numbers_outcomes_reasons_origins_and_refusals_as_the_page() {
     ] {
         check_number("DESK_REFUSAL", refusal, u32::from(refusal.number()));
     }
+}
+
+/// The lengths of both kinds of a case, and what a sheet may have.
+#[test]
+fn the_header_has_the_lengths_of_the_safe_interface() {
+    for (name, number) in [
+        ("DESK_CASE_BYTES", desk::CASE_BYTES),
+        ("DESK_WIDE_CASE_BYTES", desk::WIDE_CASE_BYTES),
+        ("DESK_ANSWER_BYTES", desk::ANSWER_BYTES),
+        ("DESK_SHEET_BYTES", desk::SHEET_BYTES),
+        ("DESK_TEXT_BYTES", desk::TEXT_BYTES),
+        ("DESK_QUOTE_BYTES", desk::QUOTE_BYTES),
+        ("DESK_QUOTES_BYTES", desk::QUOTES_BYTES),
+    ] {
+        let define = format!("\n#define {name} {number}u");
+        assert_eq!(header().matches(&define).count(), 1, "{define}");
+    }
+    assert_eq!(
+        (page::CASE_BYTES, page::WIDE_CASE_BYTES),
+        (desk::CASE_BYTES, desk::WIDE_CASE_BYTES)
+    );
 }
 
 /// In a comment, on a line of its own.

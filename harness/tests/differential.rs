@@ -9,13 +9,9 @@ use harness::stream::stream;
 fn the_desks_agree_on_a_million_cases() {
     let seed = settings::seed();
     let mut coverage = Coverage::default();
-    let compared = stream(
-        &Proved,
-        &Plain,
-        seed,
-        settings::cases(),
-        |record, answer| coverage.add(record, answer),
-    )
+    let compared = stream(&Proved, &Plain, seed, settings::cases(), |seen| {
+        coverage.add(seen);
+    })
     .expect("the desks agree");
     println!("seed {seed}: {compared} cases agree\n{coverage}");
     let surprises = coverage.surprises();

@@ -341,15 +341,15 @@ fn the_origin_is_printed_last() {
             ..trade(18, priced(NONE, 1_000, buy(1_000, 2_000)))
         },
         Fields {
-            kind: 2,
+            contracts: 0,
             ..trade(19, buy(1_000, 2_000))
         },
     ];
-    let sheet = cases.map(|case| case.encode());
+    let sheet = cases.map(|case| case.encode()).concat();
     let mut random = Random::new(settings::seed());
     let mut comparison = Comparison::new(&Proved, &Plain);
     let text = comparison
-        .print_sheet(sheet.as_flattened(), &mut random)
+        .print_sheet(&sheet, &mut random)
         .expect("the desks agree");
     let expected = "\
 TRADE OUTCOME REASON TP NEW ADJ NUL OLD FROM
@@ -361,12 +361,12 @@ TRADE OUTCOME REASON TP NEW ADJ NUL OLD FROM
 16 NONE 3 - - 0 0 10 0
 17 NONE 1 1999 - 0 0 10 2
 18 NULLIFY 11 1000 - 0 10 0 2
-#8 REFUSED 2
+#8 REFUSED 6
 END 8 1
 ";
     assert_eq!(String::from_utf8_lossy(text), expected);
     let text = comparison
-        .print_sheet(&sheet.as_flattened()[1..], &mut random)
+        .print_sheet(&sheet[1..], &mut random)
         .expect("the desks agree");
     assert_eq!(String::from_utf8_lossy(text), "SHEET REFUSED 10\n");
 }

@@ -1,5 +1,6 @@
-//! "Laws the counter relies on", tried on the answers of the proved desk; those of TP's origin
-//! (request L3); and the round trip of a record's fields.
+//! "Laws the counter relies on", tried on the answers of the proved desk over cases of both kinds;
+//! those of TP's origin (request L3); and the round trip of a record's fields. Those of wide quotes are
+//! in `wide_laws`.
 
 use harness::accepted::accepted;
 use harness::desk::TEXT_BYTES;
@@ -56,7 +57,7 @@ fn contracts_sum_to_those_traded() {
 }
 
 /// The origin is 0 exactly where TP is none, 1 exactly where TP is the quote of the side in error, 2
-/// exactly where that quote is none and TP the official's price.
+/// exactly where that quote is none, or the quotes are wide, and TP is the official's price.
 #[test]
 fn the_origin_says_what_gave_tp() {
     let mut random = Random::new(settings::seed());
@@ -66,7 +67,10 @@ fn the_origin_says_what_gave_tp() {
         let fields = accepted(&mut random);
         assert_eq!(Proved.rule_case(&fields.encode(), &mut answer), 0);
         let ruling = RulingFields::of_answer(&answer);
-        let (quote, _) = fields.own_quote();
+        let quote = match fields.own_quote() {
+            _ if fields.is_wide() => NONE,
+            (quote, _) => quote,
+        };
         let (tp, origin) = (ruling.tp, ruling.origin);
         assert_eq!(origin == 0, tp == NONE, "\n{fields}{ruling}");
         assert_eq!(
@@ -118,6 +122,9 @@ fn the_origin_is_told_in_byte_10_of_the_ruling_alone() {
             continue;
         }
         let by_quote = with_own_quote(price, fields.contracts, &fields);
+        if by_quote.is_wide() {
+            continue;
+        }
         let by_official = Fields {
             official: price,
             ..with_own_quote(NONE, 0, &fields)
@@ -134,13 +141,15 @@ fn the_origin_is_told_in_byte_10_of_the_ruling_alone() {
         assert_eq!(quoted[..10], official[..10], "\n{fields}");
         assert_eq!(quoted[11..], official[11..], "\n{fields}");
     }
-    assert!(told > TRIES / 2);
+    assert!(told > TRIES / 3);
 }
 
 /// The answers of a sheet, one by one, without the index of refused ones.
 fn answers(sheet: &[u8]) -> Vec<Vec<u8>> {
     let mut out = vec![0; sheet.len() / 88 * 96];
-    let written = Proved.rule_sheet(sheet, &mut out).written as usize;
+    let counts = Proved.rule_sheet(sheet, &mut out);
+    assert_eq!(counts.refusal, 0);
+    let written = counts.written as usize;
     let mut rest = &out[..written];
     let mut answers = Vec::new();
     while let [length, ..] = rest {
@@ -148,6 +157,7 @@ fn answers(sheet: &[u8]) -> Vec<Vec<u8>> {
         let (answer, after) = rest.split_at(len);
         if len == 12 {
             assert_eq!(u32_at(answer, 4) as usize, answers.len(), "index");
+            assert!((3..=9).contains(&answer[8]), "refusal {}", answer[8]);
             answers.push([&answer[..4], &answer[8..]].concat());
         } else {
             answers.push(answer.to_vec());
@@ -162,14 +172,13 @@ fn reordering_a_sheet_reorders_the_answers() {
     let mut random = Random::new(settings::seed());
     let mixture = Mixture::default();
     for _ in 0..200 {
-        let cases: Vec<[u8; 88]> = (0..random.within(0, 60))
-            .map(|_| mixture.record(&mut random))
-            .collect();
+        let count = random.within(0, 60) as usize;
+        let cases = mixture.row(&mut random, count);
         let mut order: Vec<usize> = (0..cases.len()).collect();
         random.shuffle(&mut order);
-        let reordered: Vec<[u8; 88]> = order.iter().map(|&at| cases[at]).collect();
-        let before = answers(cases.as_flattened());
-        let after = answers(reordered.as_flattened());
+        let reordered: Vec<Vec<u8>> = order.iter().map(|&at| cases[at].clone()).collect();
+        let before = answers(&cases.concat());
+        let after = answers(&reordered.concat());
         let expected: Vec<Vec<u8>> = order.iter().map(|&at| before[at].clone()).collect();
         assert_eq!(after, expected);
     }
@@ -182,10 +191,9 @@ fn the_origin_is_printed_as_the_ruling_has_it() {
     let mixture = Mixture::default();
     let mut text = [0; TEXT_BYTES];
     for _ in 0..200 {
-        let cases: Vec<[u8; 88]> = (0..random.within(0, 60))
-            .map(|_| mixture.record(&mut random))
-            .collect();
-        let len = Proved.print_sheet(cases.as_flattened(), &mut text) as usize;
+        let count = random.within(0, 60) as usize;
+        let sheet = mixture.row(&mut random, count).concat();
+        let len = Proved.print_sheet(&sheet, &mut text) as usize;
         let report = str::from_utf8(&text[..len]).expect("text");
         let lines: Vec<Vec<&str>> = report
             .lines()
@@ -196,7 +204,7 @@ fn the_origin_is_printed_as_the_ruling_has_it() {
         };
         assert_eq!((header.len(), header.last()), (9, Some(&"FROM")));
         assert_eq!((end.len(), end[0]), (3, "END"));
-        let answers = answers(cases.as_flattened());
+        let answers = answers(&sheet);
         assert_eq!(lines.len(), answers.len());
         for (line, answer) in lines.iter().zip(&answers) {
             if answer.len() == 96 {

@@ -498,11 +498,10 @@ fn a_case_is_filled_at_its_execution() {
         offer_size: 20,
         ..case.clone()
     };
-    let record = answer.case.try_into().expect("88 bytes");
-    assert_eq!(Fields::decode(&record), filled);
+    assert_eq!(Fields::decode(&answer.case), filled);
     // The buy at 2.000 had an offer of 1.000, which made it 1.150; with 1.100 it becomes 1.250.
     let mut out = [0; 96];
-    assert_eq!(desk::rule_case(&record, &mut out), 0);
+    assert_eq!(desk::rule_case(&answer.case, &mut out), 0);
     assert_eq!((out[8], out[9], &out[16..20]), (1, 6, &[0xe2, 4, 0, 0][..]));
 
     // No quote before the execution: what was there goes.
@@ -520,9 +519,40 @@ fn a_case_is_filled_at_its_execution() {
     assert_eq!(empty.case, without.encode());
 }
 
-/// The case first, then the quotes; a refused call writes nothing.
+/// Bytes 20 to 35 of a case of kind 2 are filled as those of kind 1, and its differential stays. The
+/// quotes that are found may be wide by it: .100 is twice .050.
+#[test]
+fn a_case_of_kind_2_is_filled() {
+    let comparison = QuoteComparison::new(&Proved, &Plain);
+    let list = encode_list(&[quote(1, 34_199, (1_000, 10), (1_100, 20))]);
+    for (differential, outcome, reason) in [(50, 3, 14), (51, 1, 6)] {
+        let case = Fields::example().wide(differential);
+        let answer = comparison
+            .fill_case(&list, &case.encode())
+            .expect("the desks agree");
+        assert_eq!(answer.number, 0);
+        let filled = Fields {
+            bid: 1_000,
+            offer: 1_100,
+            bid_size: 10,
+            offer_size: 20,
+            ..case
+        };
+        assert_eq!(answer.case, filled.encode());
+        let mut out = [0; 96];
+        assert_eq!(desk::rule_case(&answer.case, &mut out), 0);
+        assert_eq!((out[8], out[9]), (outcome, reason));
+    }
+}
+
+/// The case first, then the quotes; a refused call writes nothing. Of both kinds.
 #[test]
 fn a_case_is_tested_before_the_quotes() {
+    check_order(Fields::example());
+    check_order(Fields::example().wide(50));
+}
+
+fn check_order(case: Fields) {
     let comparison = QuoteComparison::new(&Proved, &Plain);
     let number = |list: &[u8], case: &[u8]| {
         let answer = comparison.fill_case(list, case).expect("the desks agree");
@@ -533,7 +563,6 @@ fn a_case_is_tested_before_the_quotes() {
     let list = encode_list(&[good.clone()]);
     let bad = encode_list(&[quote(17, 100, (1_000, 10), (1_100, 20))]);
     let back = encode_list(&[quote(1, 101, (1_000, 10), (1_100, 20)), good]);
-    let case = Fields::example();
     let no_contracts = Fields {
         contracts: 0,
         ..case.clone()
@@ -550,7 +579,20 @@ fn a_case_is_tested_before_the_quotes() {
         assert_eq!(number(quotes, &no_contracts.encode()), 6);
         assert_eq!(number(quotes, &late.encode()), 7);
         assert_eq!(number(quotes, &case.encode()[..87]), 1);
+        assert_eq!(number(quotes, &case.encode()[..case.encode().len() - 1]), 1);
         assert_eq!(number(quotes, &[]), 1);
+        let (length, kind) = (case.length, 3 - case.kind);
+        let other_kind = Fields {
+            kind,
+            ..case.clone()
+        };
+        assert_eq!(
+            number(quotes, &other_kind.encode()),
+            2,
+            "({length}, {kind})"
+        );
+        let unpermitted = case.clone().wide(0);
+        assert_eq!(number(quotes, &unpermitted.encode()), 5);
     }
     // The quotes that stand in the case are tested as well, though they would be overwritten.
     let bad_bid = Fields {

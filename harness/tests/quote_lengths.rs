@@ -148,22 +148,29 @@ fn times_going_back_anywhere_are_refused_22() {
 fn cases_of_every_length() {
     let comparison = QuoteComparison::new(&Proved, &Plain);
     let mut random = Random::new(settings::seed());
-    let record = Fields::example().encode();
     let good = encode_list(&list_of(&mut random, 5));
     let mut bad = good.clone();
     bad[4] = 0;
     let lists = [(&[][..], 0), (&good, 0), (&good[1..], 20), (&bad, 21)];
+    let kinds = [Fields::example(), Fields::example().wide(1)].map(|case| case.encode());
     for len in 0..=200 {
-        let repeated: Vec<u8> = record.into_iter().cycle().take(len).collect();
         let mut noise = vec![0; len];
         random.fill(&mut noise);
         for (list, number) in lists {
-            let filled = comparison
-                .fill_case(list, &repeated)
-                .expect("the desks agree");
-            assert_eq!(filled.number, if len == 88 { number } else { 1 });
+            for record in &kinds {
+                let repeated: Vec<u8> = record.iter().copied().cycle().take(len).collect();
+                let filled = comparison
+                    .fill_case(list, &repeated)
+                    .expect("the desks agree");
+                let expected = match len {
+                    _ if len == record.len() => number,
+                    88 | 92 => 2,
+                    _ => 1,
+                };
+                assert_eq!(filled.number, expected, "{len} bytes");
+            }
             let refused = comparison.fill_case(list, &noise).expect("the desks agree");
-            assert_eq!(refused.number, if len == 88 { 2 } else { 1 });
+            assert_eq!(refused.number, if let 88 | 92 = len { 2 } else { 1 });
         }
     }
 }
@@ -174,12 +181,14 @@ fn cases_damaged_in_every_byte() {
     let comparison = QuoteComparison::new(&Proved, &Plain);
     let mut random = Random::new(settings::seed());
     let source = Lists::default();
-    for at in 0..88 {
-        for byte in 0..=255 {
-            let mut case = Fields::example().encode();
-            case[at] = byte;
-            let list = source.list(&mut random);
-            comparison.fill_case(&list, &case).expect("the desks agree");
+    for good in [Fields::example(), Fields::example().wide(50)].map(|case| case.encode()) {
+        for at in 0..good.len() {
+            for byte in 0..=255 {
+                let mut case = good.clone();
+                case[at] = byte;
+                let list = source.list(&mut random);
+                comparison.fill_case(&list, &case).expect("the desks agree");
+            }
         }
     }
 }
@@ -221,12 +230,15 @@ fn every_number_at_every_trade() {
 fn null_beside_a_length_of_0() {
     let comparison = QuoteComparison::new(&ProvedOnNull, &Plain);
     let record = Fields::example().encode();
+    let wide = Fields::example().wide(50).encode();
     let list = QuoteFields::example().encode();
     for (quotes, case, number) in [
         (&[][..], &[][..], 1),
         (&list, &[], 1),
         (&[], &record, 0),
         (&list, &record, 0),
+        (&[], &wide, 0),
+        (&list, &wide, 0),
     ] {
         let filled = comparison.fill_case(quotes, case).expect("the desks agree");
         assert_eq!(filled.number, number);

@@ -10,6 +10,7 @@ use harness::fields::page_sheet;
 use harness::page::print_sheet;
 use harness::random::Random;
 use harness::settings;
+use harness::sheets::cut;
 
 fn samples() -> PathBuf {
     Path::new(env!("CARGO_MANIFEST_DIR")).join("../samples")
@@ -43,4 +44,16 @@ fn the_page_sample_is_the_text_of_the_page() {
     assert!(sheets().contains(&samples().join("page.sheet")));
     let expected = fs::read_to_string(samples().join("page.txt")).expect("page.txt");
     assert_eq!(print_sheet(&page_sheet()), expected);
+}
+
+/// Cases of kind 1 and of kind 2 in one sheet, whose text was worked out by hand as the others were.
+#[test]
+fn a_sample_holds_cases_of_both_kinds() {
+    let holds_both = |path: PathBuf| {
+        let sheet = fs::read(path).expect("a sheet");
+        let (cases, rest) = cut(&sheet);
+        let of = |bytes| cases.iter().any(|case| case.len() == bytes);
+        rest.is_empty() && of(88) && of(92)
+    };
+    assert!(sheets().into_iter().any(holds_both));
 }

@@ -4,13 +4,15 @@
 
 use std::collections::BTreeSet;
 
-use harness::desk::{self, ANSWER_BYTES, CASE_BYTES, TEXT_BYTES};
-use harness::mixture::Mixture;
+use harness::desk::{self, ANSWER_BYTES, CASE_BYTES, SHEET_BYTES, TEXT_BYTES, WIDE_CASE_BYTES};
+use harness::fields::Fields;
+use harness::mixture::{well_headed, Mixture};
 use harness::random::Random;
 use harness::settings;
 use harness::stack::{Stack, Taken};
 
-const CASES: usize = 600;
+/// As many of both kinds as every sheet of that length can hold.
+const CASES: usize = SHEET_BYTES / WIDE_CASE_BYTES;
 const SHEETS: usize = 20;
 
 /// A call, what it may take, and the most that it took.
@@ -65,14 +67,15 @@ fn little_stack() {
                 origins.insert(out[10]);
             }
         }
-        let sheet = cases.as_flattened();
+        let row: Vec<_> = cases.iter().map(|case| well_headed(case)).collect();
+        let sheet = row.concat();
         rule_sheet.took(
-            stack.rule_sheet(sheet, &mut out),
-            desk::rule_sheet(sheet, &mut out_too),
+            stack.rule_sheet(&sheet, &mut out),
+            desk::rule_sheet(&sheet, &mut out_too),
         );
         print_sheet.took(
-            stack.print_sheet(sheet, &mut text),
-            desk::print_sheet(sheet, &mut text_too),
+            stack.print_sheet(&sheet, &mut text),
+            desk::print_sheet(&sheet, &mut text_too),
         );
         assert!(out == out_too && text == text_too, "the buffers");
     }
@@ -95,6 +98,7 @@ fn little_stack() {
     check_case.took(stack.check_case(ragged), 1);
     rule_case.took(stack.rule_case(ragged, short), 1);
     rule_case.took(stack.rule_case(&ragged[..CASE_BYTES], short), 11);
+    rule_case.took(stack.rule_case(&ragged[..WIDE_CASE_BYTES], short), 11);
     let refused = |refusal| desk::DeskSheet {
         refusal,
         written: 0,
@@ -102,7 +106,9 @@ fn little_stack() {
         refused: 0,
     };
     rule_sheet.took(stack.rule_sheet(ragged, short), refused(10));
-    rule_sheet.took(stack.rule_sheet(&ragged[..CASE_BYTES], short), refused(11));
+    for case in [Fields::example(), Fields::example().wide(1)] {
+        rule_sheet.took(stack.rule_sheet(&case.encode(), short), refused(11));
+    }
     print_sheet.took(stack.print_sheet(ragged, &mut text), 17);
 
     for call in [&check_case, &rule_case, &rule_sheet, &print_sheet] {

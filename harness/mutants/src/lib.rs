@@ -1,5 +1,5 @@
 //! The comparison must fail when a desk is wrong: copies of the independent desk, each broken in
-//! one way (`list.rs`, `quotes.rs`), are compared with the proved desk, and each must be found within
+//! one way (`list.rs`, `wide.rs`, `quotes.rs`), are compared with the proved desk, and each must be found within
 //! the cases, or the lists of quotes, of a default run.
 
 #![cfg(test)]
@@ -48,7 +48,7 @@ fn report<'a>(of: &str, verdicts: impl Iterator<Item = (&'a str, Verdict)>) {
 fn every_mutant_is_found() {
     let (seed, cases) = (settings::seed(), settings::cases());
     let judged =
-        |mutant: &dyn Desk| judge(|| stream(&Proved, mutant, seed, cases, |_, _| ()).map(|_| ()));
+        |mutant: &dyn Desk| judge(|| stream(&Proved, mutant, seed, cases, |_| ()).map(|_| ()));
     report(
         "cases",
         MUTANTS

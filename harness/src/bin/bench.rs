@@ -1,6 +1,7 @@
-//! The benchmark: three sheets of 600 cases ruled and one printed, and lookups in a list of 2,000
-//! quotes, one and hundreds, through the proved desk, the plain one and a bare copy of the same bytes. Lookups also go through
-//! the independent desk's own, which is written to be read: the plain one is [`fast_quotes`].
+//! The benchmark: three sheets of 600 cases of kind 1 and one of both kinds ruled, one of them printed,
+//! and lookups in a list of 2,000 quotes, one and hundreds, through the proved desk, the plain one and
+//! a bare copy of the same bytes. Lookups also go through the independent desk's own, which is written
+//! to be read: the plain one is [`fast_quotes`].
 //!
 //!     bench                              medians of many rounds, in ns per case and per lookup
 //!     bench --count WHO WHAT ROUNDS      only those rounds, for a counter of instructions around it
@@ -9,8 +10,8 @@ use std::env;
 use std::hint::black_box;
 use std::time::Instant;
 
-use harness::accepted::accepted;
-use harness::desk::TEXT_BYTES;
+use harness::accepted::accepted_of;
+use harness::desk::{SHEET_BYTES, TEXT_BYTES};
 use harness::desks::{Desk, Plain, Proved, QuoteDesk};
 use harness::fast_quotes;
 use harness::fields::{encode_list, QuoteFields, NONE};
@@ -19,10 +20,14 @@ use harness::random::Random;
 use harness::settings;
 
 const CASES: usize = 600;
+/// Of kind 1 and of kind 2: together they are as long as 600 of kind 1.
+const MIXED_CASES: (usize, usize) = (301, 286);
 const QUOTES: usize = 2_000;
 const WARM_UP: usize = 200;
 const ROUNDS: usize = 2_001;
-const SHEETS: [&str; 4] = ["accepted", "refused", "half", PRINTED];
+const SHEETS: [&str; 5] = ["accepted", "refused", "half", MIXED, PRINTED];
+/// Accepted cases of both kinds in no order.
+const MIXED: &str = "mixed";
 /// The sheet with half of each, printed and not ruled.
 const PRINTED: &str = "printed";
 /// How many quotes of the list precede the trade; or many trades all over the list, as on a busy
@@ -68,13 +73,13 @@ impl Ruling {
     /// Both desks answer once, and alike.
     fn new(name: &str) -> Ruling {
         let sheet = sheet(name);
-        let mut answers = vec![0; CASES * 96];
-        let mut out = vec![0; CASES * 96];
+        let mut answers = vec![0; cases(name) * 96];
+        let mut out = vec![0; cases(name) * 96];
         let proved = Proved.rule_sheet(&sheet, &mut answers);
         let plain = Plain.rule_sheet(&sheet, &mut out);
         assert_eq!((proved, &answers), (plain, &out), "the desks agree");
         let ruled = match name {
-            "accepted" => CASES,
+            "accepted" | MIXED => cases(name),
             "refused" => 0,
             _ => CASES / 2,
         };
@@ -151,20 +156,39 @@ impl Bench for Printing {
     }
 }
 
-/// 600 cases: all accepted, all refused, or half of each in no order.
+/// 600 cases of kind 1: all accepted, all refused, or half of each in no order; or accepted cases of
+/// both kinds. The longest sheet in every case.
 fn sheet(name: &str) -> Vec<u8> {
     let mut random = Random::new(settings::seed());
     let mixture = Mixture::default();
-    let mut cases: Vec<[u8; 88]> = (0..CASES)
-        .map(|index| match name {
-            "accepted" => accepted(&mut random).encode(),
-            "refused" => mixture.faulty(&mut random),
-            _ if index < CASES / 2 => accepted(&mut random).encode(),
-            _ => mixture.faulty(&mut random),
+    let mut cases: Vec<Vec<u8>> = (0..cases(name))
+        .map(|index| {
+            let wide = name == MIXED && index >= MIXED_CASES.0;
+            let fields = accepted_of(&mut random, wide);
+            let refused = match name {
+                "accepted" | MIXED => false,
+                "refused" => true,
+                _ => index >= CASES / 2,
+            };
+            if refused {
+                mixture.refused(&mut random, fields).encode()
+            } else {
+                fields.encode()
+            }
         })
         .collect();
     random.shuffle(&mut cases);
-    cases.into_flattened()
+    let sheet = cases.concat();
+    assert_eq!(sheet.len(), SHEET_BYTES);
+    sheet
+}
+
+/// How many cases a sheet has.
+fn cases(name: &str) -> usize {
+    match name {
+        MIXED => MIXED_CASES.0 + MIXED_CASES.1,
+        _ => CASES,
+    }
 }
 
 /// A list of quotes, the trades to be looked up in it, and the buffer for the copy.
@@ -299,8 +323,11 @@ fn quotes() -> Vec<QuoteFields> {
 
 fn measure() {
     println!(
-        "seed {}, medians of {ROUNDS} rounds\n{CASES} cases a sheet, ns per case",
-        settings::seed()
+        "seed {}, medians of {ROUNDS} rounds\n\
+         {CASES} cases of kind 1 a sheet, ns per case; {MIXED}: {} of kind 1 and {} of kind 2",
+        settings::seed(),
+        MIXED_CASES.0,
+        MIXED_CASES.1
     );
     head("sheet", &WORKERS);
     for name in SHEETS {
@@ -345,7 +372,7 @@ fn rounds(what: &str) -> usize {
 fn in_a_round(what: &str) -> usize {
     match what {
         MORNING | NUMBER => TRADES,
-        _ if SHEETS.contains(&what) => CASES,
+        _ if SHEETS.contains(&what) => cases(what),
         _ => 1,
     }
 }

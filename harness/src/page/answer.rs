@@ -2,15 +2,16 @@
 //! buffer.
 
 use super::case::{Case, Party, Side};
-use super::reading::{as_record, read_record, Record, CASE_BYTES};
+use super::form::Record;
+use super::reading::{read_facts, read_record};
 use super::refusal::Refusal;
 use super::ruling::{rule, Origin, Outcome, Ruling, TheoreticalPrice};
+use super::sheet::Sheet;
 use super::units::Mills;
 
 const PART_BYTES: usize = 32;
 const ANSWER_BYTES: usize = 3 * PART_BYTES;
 const REFUSED_BYTES: usize = 12;
-const LONGEST_SHEET: usize = 52_800;
 
 const RULING_KIND: u16 = 16;
 const NOTICE_KIND: u16 = 17;
@@ -28,24 +29,24 @@ pub struct Counts {
 
 /// Tests 1, 11, then 2 to 9: the table's order.
 pub fn rule_case(case: &[u8], out: &mut [u8]) -> Result<(), Refusal> {
-    let record = as_record(case)?;
+    let record = Record::of_length(case)?;
     let answer = out.first_chunk_mut().ok_or(Refusal::AnswerBuffer)?;
     let case = read_record(record)?;
     write_answer(&case, answer);
     Ok(())
 }
 
-/// "A sheet tests 10, then 11, then each case 2 to 9." It "writes 96 bytes per ruled case, 12 per
-/// refused one".
+/// A sheet tests 10, then 11, then each case 3 to 9: "refusal records in a sheet carry 3 to 9 only". It
+/// "writes 96 bytes per ruled case, 12 per refused one".
 pub fn rule_sheet(sheet: &[u8], out: &mut [u8]) -> Result<Counts, Refusal> {
-    let cases = cases_of(sheet)?;
-    if out.len() < cases.len() * ANSWER_BYTES {
+    let sheet = Sheet::walked(sheet)?;
+    if out.len() < sheet.cases * ANSWER_BYTES {
         return Err(Refusal::AnswerBuffer);
     }
     let mut counts = Counts::default();
-    for (index, record) in cases.iter().enumerate() {
+    for (index, record) in sheet.records().enumerate() {
         let room = &mut out[counts.written..];
-        match read_record(record) {
+        match read_facts(record) {
             Ok(case) => {
                 write_answer(&case, place(room));
                 counts.written += ANSWER_BYTES;
@@ -59,16 +60,6 @@ pub fn rule_sheet(sheet: &[u8], out: &mut [u8]) -> Result<Counts, Refusal> {
         }
     }
     Ok(counts)
-}
-
-/// Test 10: "a sheet's length isn't a multiple of 88, or is above 52,800".
-pub fn cases_of(sheet: &[u8]) -> Result<&[Record], Refusal> {
-    let (cases, rest) = sheet.as_chunks::<CASE_BYTES>();
-    if rest.is_empty() && sheet.len() <= LONGEST_SHEET {
-        Ok(cases)
-    } else {
-        Err(Refusal::SheetLength)
-    }
 }
 
 /// Where the next record goes.

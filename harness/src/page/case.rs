@@ -52,8 +52,19 @@ pub struct Agreement {
     pub after: Seconds,
 }
 
+/// What the record's kind says beside the facts that every kind has.
+#[derive(Clone, Copy, Debug, PartialEq, Eq)]
+pub enum Form {
+    Kind1,
+    /// Request L4 of document 02: "kind 1 with the permitted differential".
+    Kind2 {
+        differential: Mills,
+    },
+}
+
 #[derive(Clone, Copy, Debug, PartialEq, Eq)]
 pub struct Case {
+    pub form: Form,
     pub trade: u32,
     pub execution: Mills,
     pub contracts: Contracts,

@@ -1,4 +1,5 @@
-//! Request L1 of document 02: "The result fills bytes 20 to 35 of a case's facts."
+//! Request L1 of document 02: "The result fills bytes 20 to 35 of a case's facts", which are in the same
+//! place in every form.
 
 use super::case::Quote;
 use super::quotes::{best_quotes, quotes_before};

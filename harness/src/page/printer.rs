@@ -2,24 +2,24 @@
 
 use std::fmt::Write;
 
-use super::answer::cases_of;
 use super::case::Case;
-use super::reading::read_record;
+use super::reading::read_facts;
 use super::ruling::{rule, Origin, Outcome, Ruling, TheoreticalPrice};
+use super::sheet::Sheet;
 use super::units::Mills;
 
 const HEADER: &str = "TRADE OUTCOME REASON TP NEW ADJ NUL OLD FROM\n";
 
 pub fn print_sheet(sheet: &[u8]) -> String {
-    match cases_of(sheet) {
+    match Sheet::walked(sheet) {
         // "A sheet refused whole prints only `SHEET REFUSED n`."
         Err(refusal) => format!("SHEET REFUSED {}\n", refusal.number()),
-        Ok(cases) => {
+        Ok(sheet) => {
             let mut text = String::from(HEADER);
             let mut ruled = 0;
             let mut refused = 0;
-            for (index, record) in cases.iter().enumerate() {
-                match read_record(record) {
+            for (index, record) in sheet.records().enumerate() {
+                match read_facts(record) {
                     Ok(case) => {
                         print_ruling(&case, &rule(&case), &mut text);
                         ruled += 1;

@@ -1,15 +1,10 @@
-//! "The case record, 88 bytes", and the tests 1 to 9 in their order.
+//! "The case record", and the tests 1 to 9 in their order.
 
-use super::case::{violates, Agreement, Case, Day, Kind, Party, Quote, Side, Terms};
+use super::case::{violates, Agreement, Case, Day, Form, Kind, Party, Quote, Side, Terms};
+use super::form::{Facts, Record};
 use super::refusal::Refusal;
 use super::units::{Contracts, Mills, Seconds};
 
-pub const CASE_BYTES: usize = 88;
-
-/// A record that passed test 1.
-pub type Record = [u8; CASE_BYTES];
-
-const KIND: u16 = 1;
 pub const NONE: u32 = 4_294_967_295;
 pub const HIGHEST_PRICE: u32 = 9_999_999;
 pub const MOST_CONTRACTS: u32 = 1_000_000;
@@ -18,28 +13,30 @@ const LONGEST_WAIT: u32 = 86_400;
 
 /// "Reading a case tests 1, then 2 to 9."
 pub fn read_case(bytes: &[u8]) -> Result<Case, Refusal> {
-    read_record(as_record(bytes)?)
-}
-
-/// Test 1: "the case isn't 88 bytes long".
-pub fn as_record(bytes: &[u8]) -> Result<&Record, Refusal> {
-    bytes.try_into().map_err(|_| Refusal::CaseLength)
+    read_record(Record::of_length(bytes)?)
 }
 
 /// Tests 2 to 9.
+pub fn read_record(record: Record) -> Result<Case, Refusal> {
+    record.well_headed()?;
+    read_facts(record)
+}
+
+/// Tests 3 to 9, all that can refuse a case of a walked sheet.
 #[inline]
-pub fn read_record(record: &Record) -> Result<Case, Refusal> {
-    length_and_kind(record)?;
-    let coded = Coded::read(record).ok_or(Refusal::ZeroOrCodedByte)?;
-    let buyer_code = member_code(record, 48)?;
-    let seller_code = member_code(record, 56)?;
+pub fn read_facts(record: Record) -> Result<Case, Refusal> {
+    let facts = record.facts();
+    let coded = Coded::read(facts).ok_or(Refusal::ZeroOrCodedByte)?;
+    let buyer_code = member_code(facts, 48)?;
+    let seller_code = member_code(facts, 56)?;
     let prices = Prices::read(record).ok_or(Refusal::Price)?;
-    let sizes = Sizes::read(record, &prices).ok_or(Refusal::ContractsOrSize)?;
-    let times = Times::read(record, coded.filing_day).ok_or(Refusal::Time)?;
+    let sizes = Sizes::read(facts, &prices).ok_or(Refusal::ContractsOrSize)?;
+    let times = Times::read(facts, coded.filing_day).ok_or(Refusal::Time)?;
     within_limits(&prices)?;
     let agreement = agreement(coded.agreement, prices.agreed, times.agreed_after)?;
     Ok(Case {
-        trade: u32_at(record, 4),
+        form: prices.form,
+        trade: u32_at(facts, 4),
         execution: prices.execution,
         contracts: sizes.contracts,
         executed_at: times.executed_at,
@@ -67,15 +64,6 @@ pub fn read_record(record: &Record) -> Result<Case, Refusal> {
     })
 }
 
-/// Test 2: "length or kind is another".
-fn length_and_kind(record: &Record) -> Result<(), Refusal> {
-    if u16_at(record, 0) == CASE_BYTES as u16 && u16_at(record, 2) == KIND {
-        Ok(())
-    } else {
-        Err(Refusal::LengthOrKind)
-    }
-}
-
 /// Byte 67: "agreement: 0 none, 1 a price, 2 nullify".
 #[derive(Clone, Copy)]
 enum AgreementMark {
@@ -98,19 +86,19 @@ struct Coded {
 
 impl Coded {
     /// Test 3: "a zero byte isn't zero, or a coded byte is not in its list".
-    fn read(record: &Record) -> Option<Coded> {
-        if u32_at(record, 36) != 0 || u32_at(record, 84) != 0 {
+    fn read(facts: &Facts) -> Option<Coded> {
+        if u32_at(facts, 36) != 0 || u32_at(facts, 84) != 0 {
             return None;
         }
         Some(Coded {
-            side_in_error: side(record[44])?,
-            on_opening: flag(record[45])?,
-            expiry_deadline: flag(record[46])?,
-            panel_decided: flag(record[47])?,
-            buyer_kind: party_kind(record[64])?,
-            seller_kind: party_kind(record[65])?,
-            filing_day: day(record[66])?,
-            agreement: agreement_mark(record[67])?,
+            side_in_error: side(facts[44])?,
+            on_opening: flag(facts[45])?,
+            expiry_deadline: flag(facts[46])?,
+            panel_decided: flag(facts[47])?,
+            buyer_kind: party_kind(facts[64])?,
+            seller_kind: party_kind(facts[65])?,
+            filing_day: day(facts[66])?,
+            agreement: agreement_mark(facts[67])?,
         })
     }
 }
@@ -159,8 +147,8 @@ fn agreement_mark(byte: u8) -> Option<AgreementMark> {
 }
 
 /// Test 4: "Each byte of a member code is 'A' to 'Z' or '0' to '9'."
-fn member_code(record: &Record, at: usize) -> Result<[u8; 4], Refusal> {
-    let code = bytes_at(record, at);
+fn member_code(facts: &Facts, at: usize) -> Result<[u8; 4], Refusal> {
+    let code = bytes_at(facts, at);
     if code
         .iter()
         .all(|byte| matches!(byte, b'A'..=b'Z' | b'0'..=b'9'))
@@ -179,19 +167,23 @@ struct Prices {
     buyer_limit: Option<Mills>,
     seller_limit: Option<Mills>,
     agreed: Option<Mills>,
+    form: Form,
 }
 
 impl Prices {
     /// Test 5: "a price is above 9,999,999 and isn't a permitted none (at 68 none always passes)".
-    fn read(record: &Record) -> Option<Prices> {
+    /// Request L4: "5 covers the new field".
+    fn read(record: Record) -> Option<Prices> {
+        let facts = record.facts();
         Some(Prices {
-            execution: price(u32_at(record, 8))?,
-            bid: price_or_none(u32_at(record, 20))?,
-            offer: price_or_none(u32_at(record, 24))?,
-            official: price_or_none(u32_at(record, 40))?,
-            buyer_limit: price_or_none(u32_at(record, 52))?,
-            seller_limit: price_or_none(u32_at(record, 60))?,
-            agreed: price_or_none(u32_at(record, 68))?,
+            execution: price(u32_at(facts, 8))?,
+            bid: price_or_none(u32_at(facts, 20))?,
+            offer: price_or_none(u32_at(facts, 24))?,
+            official: price_or_none(u32_at(facts, 40))?,
+            buyer_limit: price_or_none(u32_at(facts, 52))?,
+            seller_limit: price_or_none(u32_at(facts, 60))?,
+            agreed: price_or_none(u32_at(facts, 68))?,
+            form: form(record)?,
         })
     }
 }
@@ -208,6 +200,22 @@ fn price_or_none(word: u32) -> Option<Option<Mills>> {
     }
 }
 
+/// What comes after the facts.
+fn form(record: Record) -> Option<Form> {
+    match record {
+        Record::Kind1(_) => Some(Form::Kind1),
+        Record::Kind2(record) => {
+            let differential = differential(u32_at(record, 88))?;
+            Some(Form::Kind2 { differential })
+        }
+    }
+}
+
+/// "The permitted differential in mills at 88 (1 to 9,999,999)"; none is no differential.
+fn differential(word: u32) -> Option<Mills> {
+    matches!(word, 1..=HIGHEST_PRICE).then_some(Mills(word))
+}
+
 struct Sizes {
     contracts: Contracts,
     bid: Option<Quote>,
@@ -216,11 +224,11 @@ struct Sizes {
 
 impl Sizes {
     /// Test 6: "contracts or a size break their rule".
-    fn read(record: &Record, prices: &Prices) -> Option<Sizes> {
+    fn read(facts: &Facts, prices: &Prices) -> Option<Sizes> {
         Some(Sizes {
-            contracts: contracts(u32_at(record, 12))?,
-            bid: quote(prices.bid, u32_at(record, 28))?,
-            offer: quote(prices.offer, u32_at(record, 32))?,
+            contracts: contracts(u32_at(facts, 12))?,
+            bid: quote(prices.bid, u32_at(facts, 28))?,
+            offer: quote(prices.offer, u32_at(facts, 32))?,
         })
     }
 }
@@ -255,12 +263,12 @@ struct Times {
 impl Times {
     /// Test 7: "a time or a count of seconds is out of range, or on day 0 the filing precedes the
     /// execution".
-    fn read(record: &Record, filing_day: Day) -> Option<Times> {
+    fn read(facts: &Facts, filing_day: Day) -> Option<Times> {
         let times = Times {
-            executed_at: time_of_day(u32_at(record, 16))?,
-            filed_at: time_of_day(u32_at(record, 72))?,
-            agreed_after: wait(u32_at(record, 76))?,
-            accepted_after: wait_or_none(u32_at(record, 80))?,
+            executed_at: time_of_day(u32_at(facts, 16))?,
+            filed_at: time_of_day(u32_at(facts, 72))?,
+            agreed_after: wait(u32_at(facts, 76))?,
+            accepted_after: wait_or_none(u32_at(facts, 80))?,
         };
         let precedes = filing_day == Day::Trade && times.filed_at < times.executed_at;
         (!precedes).then_some(times)

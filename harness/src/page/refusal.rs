@@ -1,4 +1,5 @@
 //! "Numbers given back instead of a ruling", and those of requests L1 and L8 for a list of quotes.
+//! Request L4 has no number of its own: it says what 1, 2, 5, 10 and 11 cover.
 
 #[derive(Clone, Copy, Debug, PartialEq, Eq)]
 pub enum Refusal {

@@ -5,6 +5,7 @@ use super::bands::band;
 use super::case::{Case, Quote, Side};
 use super::units::{Contracts, Mills};
 use super::way::{open_way, Way};
+use super::width::is_wide;
 
 /// The page's reasons, by their numbers.
 #[derive(Clone, Copy, Debug, PartialEq, Eq)]
@@ -137,7 +138,8 @@ pub fn rule(case: &Case) -> Ruling {
 }
 
 /// "Best offer for a buy, best bid for a sell; if that is none, the official's price." Request L3:
-/// "The step that finds TP now answers its origin too."
+/// "The step that finds TP now answers its origin too." Request L4: where the quotes are wide, "TP is
+/// the official's or the case waits".
 pub fn theoretical_price(case: &Case) -> Option<TheoreticalPrice> {
     let quote = match case.side_in_error {
         Side::Buy => case.offer,
@@ -145,7 +147,11 @@ pub fn theoretical_price(case: &Case) -> Option<TheoreticalPrice> {
     };
     let quoted = quote.map(TheoreticalPrice::Quoted);
     let official = case.official.map(TheoreticalPrice::Official);
-    quoted.or(official)
+    if is_wide(case) {
+        official
+    } else {
+        quoted.or(official)
+    }
 }
 
 /// The error, then agreement, then the act.
