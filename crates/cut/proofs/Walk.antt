@@ -7,10 +7,12 @@ use native.Mathlib.Numerals.{add-one}
 use native.Mathlib.Nat.{add-sub-cancel-left}
 use native.Mathlib.Omega.{arith}
 use lib.ListN.{length, take, drop, getD, length-append, length-drop}
-use lib.Seq.{drop-drop, drop-cons, take-all, take-length, take-suc, length-take-le}
+use lib.Seq.{getD-drop, drop-drop, drop-cons, take-all, take-length, take-suc, length-take-le}
 use lib.Dec.{eqb, ltb}
 use borrow.Author.Tests.{eq-eqb, ne-eqb, eqb-true, eqb-false, ltb-true, ltb-false, lt-ltb}
+use Rattle.wire.specs.Numbers.{numberAt}
 use Rattle.wire.proofs.Tests.{both-true}
+use Rattle.forms.specs.Heads.{sizeIn}
 use Rattle.cut.specs.Cut.{caseLength, Parts, uncut, cut, casesIn, caseAt, whole, together, startOf}
 use Rattle.cut.proofs.First.{first, length-le}
 use Rattle.cut.proofs.Cut.{cut-end, cut-more}
@@ -125,6 +127,22 @@ length-there s from r l e =
     let lent = take-all (length s - from) (drop from s) (omega (arith, length-drop from s)) in
     let is = e ∙ ap caseLength lent in
     (is, omega (arith, length-le (drop from s), length-drop from s))
+
+-- what `said_length` answers, where a case begins: its head stands at the place
+head-there : (s : List ℕ) (from : ℕ) → sizeIn (drop from s) ≡ numberAt 2 s from
+unfolding numberAt
+head-there s from = simp (getD-drop from s 0 0, getD-drop from s 1 0)
+
+pub said-there : (s : List ℕ) (from r : ℕ) → from ≤ length s → (caseLength (drop from s) ≡ 0 → ⊥) → r ≡ numberAt 2 s from
+    → (r ≡ caseLength (drop from s)) × (from + r ≤ length s)
+said-there s from r l h e =
+    let f = first (drop from s) h in
+    let is : r ≡ caseLength (drop from s) = e ∙ sym (head-there s from) ∙ sym (f .size) in
+    (is, omega (arith, length-le (drop from s), length-drop from s))
+
+-- the head of a case that begins there is within the bytes
+pub head-within : (s : List ℕ) (from : ℕ) → (caseLength (drop from s) ≡ 0 → ⊥) → from + 2 ≤ length s
+head-within s from h = let f = first (drop from s) h in omega (arith, f .low, f .fits, length-drop from s)
 
 -- ---- a turn, where the code asks how long the next case is and lends it
 module _ (s : List ℕ) (i from step : ℕ) (a : At s i from) (l : i < casesIn s) (e : step ≡ caseLength (drop from s)) where

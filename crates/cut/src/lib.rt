@@ -30,6 +30,15 @@ pub fn length_at(s: &[u8], from: usize) -> usize
     case_length(&s[from..])
 }
 
+// The length of the case that is known to begin at a place: what its head says, and no look at where the bytes end, which a walk over a whole
+// sheet would carry along.
+pub fn said_length(s: &[u8], from: usize) -> usize
+    requires { ⌜ (from ≤ length (now s)) × (caseLength (drop from (now s)) ≡ 0 → ⊥) ⌝ }
+    ensures { λ r. ⌜ (r ≡ caseLength (drop from (now (s .entry)))) × (from + r ≤ length (now (s .entry))) ⌝ }
+{
+    wire::read_u16(s, from) as usize
+}
+
 // Whether a sheet is cases to its end, and how many there are before what is left.
 pub struct Count {
     pub whole: bool,

@@ -12,7 +12,7 @@ use Rattle.record.specs.Record.{factsOf}
 use Rattle.earlier.specs.Earlier.{quotesBeforeOf}
 use Rattle.best.specs.Looked.{lookedOf}
 use Rattle.best.proofs.Own.{own-found, own-most}
-use Rattle.filling.specs.Words.{Quote, Facts, Found, Looked, Tried}
+use Rattle.filling.specs.Words.{Quote, Trade, Found, Looked, Tried}
 use Rattle.filling.specs.Filling.{filled, foundFor, fillRefusalOf, fillingOf, lookedFor, fillReadOf, triedOf}
 
 filled-length : (s : List ℕ) (b o : Quote) → length (filled s b o) ≡ length s
@@ -62,8 +62,8 @@ module _ (q s : List ℕ) where
   unfolding fillReadOf
   tried-none n e h = rw (← (case-fails n e h .0)) (simp (← e, ne-eqb n 0 h))
 
-  module _ (n : ℕ) (tested : n ≡ refusalOf s) (good : n ≡ 0) (facts : Facts) (read : facts ≡ factsOf s) (l : Looked)
-      (looked : l ≡ lookedOf q (facts .trade .executed .0) (quotesBeforeOf q (facts .trade .executed .0))) where
+  module _ (n : ℕ) (tested : n ≡ refusalOf s) (good : n ≡ 0) (t : Trade) (read : t ≡ factsOf s .trade) (l : Looked)
+      (looked : l ≡ lookedOf q (t .executed .0) (quotesBeforeOf q (t .executed .0))) where
     own : l .found ≡ foundFor q s
     own = rw (looked, read) (own-found q (factsOf s .trade .executed .0))
 

@@ -37,8 +37,8 @@ pub fn check_fill(quotes: &[u8], case: &[u8]) -> Tried
             examined: 0,
         };
     }
-    let facts = record::facts_of(case);
-    let would = best::count_and_find(quotes, facts.trade.executed.0);
+    let trade = record::trade_of(case);
+    let would = best::count_and_find(quotes, trade.executed.0);
     let found = would.found;
     Tried {
         refusal: found.refusal,
@@ -54,8 +54,8 @@ pub fn fill_case(quotes: &[u8], case: &mut [u8]) -> u8
     if number != 0 {
         return number;
     }
-    let facts = record::facts_of(case);
-    let looked = best::count_and_find(quotes, facts.trade.executed.0);
+    let trade = record::trade_of(case);
+    let looked = best::count_and_find(quotes, trade.executed.0);
     let found = looked.found;
     if found.refusal != 0 {
         return found.refusal;

@@ -45,9 +45,10 @@ fn put_cases(sheet: &[u8], n: usize, out: &mut [u8]) -> Printed
     let mut at: usize = 0;
     let mut ruled: usize = 0;
     while i < n {
-        let step = cut::length_at(sheet, from);
-        let p = put_case(&sheet[from..from + step], i as u32, &mut out[at..]);
-        from += step;
+        let step = cut::said_length(sheet, from);
+        let next = from + step;
+        let p = put_case(&sheet[from..next], i as u32, &mut out[at..]);
+        from = next;
         at += p.bytes;
         ruled += p.ruled;
         i += 1;

@@ -94,9 +94,10 @@ pub fn rule_sheet(sheet: &[u8], out: &mut [u8]) -> SheetAnswer
     let mut at: usize = 0;
     let mut ruled: usize = 0;
     while i < n {
-        let step = cut::length_at(sheet, from);
-        let e = rule_entry(&sheet[from..from + step], i as u32, &mut out[at..]);
-        from += step;
+        let step = cut::said_length(sheet, from);
+        let next = from + step;
+        let e = rule_entry(&sheet[from..next], i as u32, &mut out[at..]);
+        from = next;
         at += e.bytes;
         ruled += e.ruled;
         i += 1;

@@ -3,6 +3,7 @@ use mathlib.Core.Path.{_≡_}
 use native.Mathlib.Omega.{arith}
 use lib.ListN.{length-take, length-drop}
 use Rattle.sheet.proofs.Turns.{Turn, first, next, few-more}
+use Rattle.cut.proofs.Walk.{at-more}
 use Rattle.report.specs.Report.{caseLine}
 use Rattle.report.proofs.Lines.{line-most, bytes-most}
 use Rattle.report.proofs.put_cases.Statement.{statement}
@@ -17,11 +18,11 @@ abbrev μ-loop : tie.MeasureT-loop
 loop-holds : tie.Need-loop-holds Inv-loop μ-loop
 loop-holds c = first caseLine 96 _ _
 
-length-at-requires : tie.Need-length-at-requires Inv-loop μ-loop
-length-at-requires c κs = omega arith
+said-length-requires : tie.Need-said-length-requires Inv-loop μ-loop
+said-length-requires c κs = let l = c .before in (omega arith, at-more _ _ _ (l .loop .inv .walked) (omega arith))
 
-add-put-case : tie.Need-add-put-case Inv-loop μ-loop
-add-put-case c = omega arith
+add-next : tie.Need-add-next Inv-loop μ-loop
+add-next c = omega arith
 
 sub-put-case : tie.Need-sub-put-case Inv-loop μ-loop
 sub-put-case c = omega arith
@@ -47,9 +48,6 @@ part-put-case-end-2 c = omega arith
 put-case-requires : tie.Need-put-case-requires Inv-loop μ-loop
 put-case-requires c κs = simp (length-take, length-drop) (omega arith)
 
-add-from : tie.Need-add-from Inv-loop μ-loop
-add-from c = omega arith
-
 add-at : tie.Need-add-at Inv-loop μ-loop
 add-at c = omega (arith, bytes-most _ _ _ (c .before .before .before .put-case .ensures .0))
 
@@ -67,7 +65,7 @@ loop-again c =
     let e = c .before .before .before .before in
     let g = e .before .before .before in
     let l = g .before .before in
-    next caseLine 96 line-most _ _ _ _ _ _ _ _ _ _ _ (l .loop .inv) (omega arith) (g .length-at .ensures .0) (e .put-case .ensures) (c .before .before .before .out .given .1)
+    next caseLine 96 line-most _ _ _ _ _ _ _ _ _ _ _ (l .loop .inv) (omega arith) (g .said-length .ensures .0) (e .put-case .ensures) (c .before .before .before .out .given .1)
 
 same-length : tie.Need-same-length Inv-loop μ-loop
 same-length c = omega arith
@@ -87,8 +85,8 @@ put-cases-spec =
     Inv-loop
     μ-loop
     loop-holds
-    length-at-requires
-    add-put-case
+    said-length-requires
+    add-next
     sub-put-case
     part-put-case-start
     part-put-case-end
@@ -97,7 +95,6 @@ put-cases-spec =
     part-put-case-start-2
     part-put-case-end-2
     put-case-requires
-    add-from
     add-at
     add-ruled
     add-i

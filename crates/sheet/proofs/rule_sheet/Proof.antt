@@ -4,6 +4,7 @@ use mathlib.Core.List.{[]}
 use native.Mathlib.Omega.{arith}
 use lib.ListN.{length, length-take, length-drop}
 use denote.Ref.{now}
+use Rattle.cut.proofs.Walk.{at-more}
 use borrow.Author.Needs.{needs}
 use Rattle.wire.proofs.Tests.{fails, holds}
 use Rattle.wire.proofs.Laid.{laid-none, ends}
@@ -51,11 +52,11 @@ returns-2 c =
 loop-holds : tie.Need-loop-holds Inv-loop μ-loop
 loop-holds c = first entryBytes 96 _ _
 
-length-at-requires : tie.Need-length-at-requires Inv-loop μ-loop
-length-at-requires c κs = omega arith
+said-length-requires : tie.Need-said-length-requires Inv-loop μ-loop
+said-length-requires c κs = let l = c .before in (omega arith, at-more _ _ _ (l .loop .inv .walked) (omega arith))
 
-add-rule-entry : tie.Need-add-rule-entry Inv-loop μ-loop
-add-rule-entry c = omega arith
+add-next : tie.Need-add-next Inv-loop μ-loop
+add-next c = omega arith
 
 sub-rule-entry : tie.Need-sub-rule-entry Inv-loop μ-loop
 sub-rule-entry c = omega arith
@@ -84,9 +85,6 @@ part-rule-entry-end-2 c = omega arith
 rule-entry-requires : tie.Need-rule-entry-requires Inv-loop μ-loop
 rule-entry-requires c κs = simp (length-take, length-drop) (omega arith)
 
-add-from : tie.Need-add-from Inv-loop μ-loop
-add-from c = omega arith
-
 add-at : tie.Need-add-at Inv-loop μ-loop
 add-at c = omega (arith, bytes-most _ _ _ (c .before .before .before .rule-entry .ensures .0))
 
@@ -104,10 +102,10 @@ loop-again c =
     let e = c .before .before .before .before in
     let g = e .before .before .before in
     let l = g .before .before in
-    next entryBytes 96 entry-most _ _ _ _ _ _ _ _ _ _ _ (l .loop .inv) (omega arith) (g .length-at .ensures .0) (e .rule-entry .ensures) (c .before .before .before .out .given .1)
+    next entryBytes 96 entry-most _ _ _ _ _ _ _ _ _ _ _ (l .loop .inv) (omega arith) (g .said-length .ensures .0) (e .rule-entry .ensures) (c .before .before .before .out .given .1)
 
-sub-t12 : tie.Need-sub-t12 Inv-loop μ-loop
-sub-t12 c = omega arith
+sub-t13 : tie.Need-sub-t13 Inv-loop μ-loop
+sub-t13 c = omega arith
 
 same-length : tie.Need-same-length Inv-loop μ-loop
 same-length c = omega arith
@@ -137,8 +135,8 @@ rule-sheet-spec =
     refuse-requires-2
     returns-2
     loop-holds
-    length-at-requires
-    add-rule-entry
+    said-length-requires
+    add-next
     sub-rule-entry
     part-rule-entry-start
     part-rule-entry-end
@@ -147,12 +145,11 @@ rule-sheet-spec =
     part-rule-entry-start-2
     part-rule-entry-end-2
     rule-entry-requires
-    add-from
     add-at
     add-ruled
     add-i
     loop-less
     loop-again
-    sub-t12
+    sub-t13
     same-length
     returns-3)
