@@ -128,7 +128,7 @@ entries = why.entered
 
 -- ---- the printer
 
--- Any bytes are printed: whole cases, 600 at most, as the header, a line for each case and END; any other bytes as the one line SHEET REFUSED 10
+-- Any bytes are printed: whole cases, 52,800 bytes at most, as the header, a line for each case and END; any other bytes as the one line SHEET REFUSED 10
 -- (RULE R11.8).
 pub text-answered : (s : List ℕ) → (wholeCases s ≡ true → textOf s ≡ ruledText s (casesIn s)) × (wholeCases s ≡ false → textOf s ≡ sheetLine 10)
 text-answered = why.text-answered

@@ -316,6 +316,9 @@ length-at-exact = cut.Exact.length-at-exact
 pub count-cases-exact : (κs : Lfts 1) → Exact (cut.count_cases.Reads.Post κs)
 count-cases-exact = cut.Exact.count-cases-exact
 
+pub said-length-exact : (κs : Lfts 1) → Exact (cut.said_length.Reads.Post κs)
+said-length-exact = cut.Exact.said-length-exact
+
 pub start-of-exact : (κs : Lfts 1) → Exact (cut.start_of.Reads.Post κs)
 start-of-exact = cut.Exact.start-of-exact
 

@@ -8,18 +8,21 @@ use mathlib.Core.List.{List}
 use lib.ListN.{length}
 use contract.Lifetimes.{Lfts}
 use denote.Ref.{RefT, now}
+use native.Mathlib.Omega.{arith}
 use Rattle.wire.specs.Numbers.{AreBytes, numberAt}
+use Rattle.wire.proofs.Tests.{range-ends}
 use Rattle.facts.specs.Numbers.{mills}
-use Rattle.forms.specs.Words.{Mills, Price, At, None, Form, One, Two}
-use Rattle.forms.specs.Heads.{pairs, known, IsCase}
+use Rattle.forms.specs.Words.{Mills, At, None, Form, One, Two}
+use Rattle.forms.specs.Heads.{known, IsCase}
 use Rattle.forms.specs.Forms.{formLength, formKind, differentialOf, formOf}
 use Rattle.forms.proofs.Heads as forms
 use Rattle.record.specs.Record.{factsOf, recordBytes}
+use Rattle.refusals.specs.Tests.{faultOf}
+use Rattle.round_trips.proofs.Again.{sound}
 use Rattle.cases.specs.Cases.{accepted, readingOf}
 use Rattle.cases.proofs.Laws as cases
-use Rattle.width.specs.Width.{apart, wide}
 use Rattle.width.proofs.Width as width
-use Rattle.theory.specs.Theory.{officialSource, sourceOf, quoteFor, tooWide, theoryOf}
+use Rattle.theory.specs.Theory.{officialSource, tooWide, theoryOf}
 use Rattle.theory.proofs.Prices as theory
 use Rattle.ruling.specs.Words.{Side, Market, Facts}
 use Rattle.ruling.specs.Outcomes.{outcomeNumber, countsOf}
@@ -29,7 +32,7 @@ use Rattle.answer.specs.Answer.{caseOf}
 use Rattle.answer.proofs as answer
 use Rattle.sheet.specs.Sheet.{caseAt, entryOf}
 use Rattle.desk.proofs as desk
-use Rattle.kinds.specs.Before.{theoryBefore, rulingBefore, caseBefore, entryBefore}
+use Rattle.kinds.specs.Before.{theoryBefore, caseBefore, entryBefore}
 use Rattle.kinds.specs.Recast.{asKindOne, withoutQuotes}
 use Rattle.kinds.proofs.Rulings as rulings
 use Rattle.kinds.proofs.Before as before
@@ -149,3 +152,14 @@ pub wide-answered : (s : List ℕ) → AreBytes s → readingOf s .refusal ≡ 0
     → (readingOf (recordBytes (withoutQuotes (factsOf s))) ≡ accepted (withoutQuotes (factsOf s)))
     × ((room : ℕ) → caseOf (recordBytes (withoutQuotes (factsOf s))) room ≡ caseOf s room)
 wide-answered = recasts.wide-answered
+
+-- ---- the differential of what is accepted (RULE R2.6.88, R3.5, R5.7)
+
+-- It is 1 to 9,999,999: neither 0 nor none passes.
+pub differential-range : (f : Facts) (d : Mills) → faultOf f ≡ 0 → f .form ≡ Two d → (1 ≤ d .0) × (d .0 ≤ 9999999)
+differential-range f d e form = range-ends 1 9999999 (d .0) (rw form at (sound f e .differential))
+
+-- So a locked market, the offer at the bid, is not wide either.
+pub locked : (f : Facts) (d bid offer : Mills) → faultOf f ≡ 0 → f .form ≡ Two d → f .market .bid .price ≡ At bid → f .market .offer .price ≡ At offer
+    → bid .0 ≡ offer .0 → tooWide (f .form) (f .market) ≡ false
+locked f d bid offer e form b o same = rw (form, b, o) (width.near d bid offer (let r = differential-range f d e form in omega arith))

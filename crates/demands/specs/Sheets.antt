@@ -1,18 +1,22 @@
--- Sheets (RULE R1.3, R3.10, R10.3, R10.6; `Laws` has R12.4): how bytes are cut into cases, what is written for them, and what one case changes.
-use Prim.Native.Nat.{ℕ, _+_, _*_, _<_}
+-- Sheets (RULE R1.3, R3.10, R10.3, R10.6, R12.10; `Laws` has R12.4): how bytes are cut into cases, what is written for them, and what one case changes.
+use Prim.Native.Nat.{ℕ, _+_, _*_, _≤_, _<_}
 use mathlib.Core.Path.{_≡_, sym, ap, _∙_}
-use mathlib.Core.Bool.{true}
+use mathlib.Core.Bool.{true, false}
 use mathlib.Core.List.{List, [], _++_}
 use native.Mathlib.Omega.{arith}
 use lib.ListN.{length, take, drop, set}
 use contract.Lifetimes.{Lfts}
 use denote.Ref.{RefT, now}
+use lib.Dec.{leb, eqb}
+use borrow.Author.Tests.{leb-true, le-leb}
 use Rattle.wire.specs.Laid.{laid, row}
+use Rattle.wire.proofs.Tests.{both-true}
 use Rattle.cut.specs.Cut.{IsCase, caseLength, uncut, before, cut, whole, casesIn, caseAt, together, AllCases, SameButIn}
 use Rattle.cut.proofs.Cut as cutting
 use Rattle.cut.proofs.Laws as laws
 use Rattle.sheet.specs.declared.SheetAnswer.{SheetAnswer}
-use Rattle.sheet.specs.Sheet.{entryOf, sheetOf}
+use Rattle.ruling.specs.Origins.{Exactly}
+use Rattle.sheet.specs.Sheet.{entryOf, wholeCases, sheetOf}
 use Rattle.sheet.proofs as sheet
 use Rattle.sheet.proofs.Turns.{answered}
 use Rattle.sheet.proofs.Counts.{ruled-within, written-counts}
@@ -21,6 +25,7 @@ use Rattle.alike.specs.Sheets.{ButOne, OnlyEntry}
 use Rattle.alike.proofs.Sheets as sheets
 use Rattle.desk.specs.declared.DeskSheet.{DeskSheet}
 use Rattle.desk.proofs as desk
+use Rattle.demands.specs.Why as why
 
 -- ---- cutting
 
@@ -53,6 +58,27 @@ two-sheets = laws.two-sheets
 -- Where every case has n bytes, case k stands at n · k.
 pub even-case : (n : ℕ) (cs : List (List ℕ)) → AllCases cs → laws.AllLong n cs → (k : ℕ) → k < length cs → caseAt (together cs) k ≡ take n (drop (k * n) (together cs))
 even-case = laws.even-case
+
+-- Bytes are whole exactly where they are cases put one after the other.
+pub whole-exactly : (s : List ℕ) → Exactly (whole s ≡ true) ((cs : List (List ℕ)) × AllCases cs × (together cs ≡ s))
+unfolding whole
+whole-exactly s =
+    (λ h. (cut s .cases, cutting.cut-each s, laws.whole-joins s h), λ c. rw (sym (c .2)) (ap (λ p. eqb (length (p .left)) 0) (cutting.cut-back (c .0) (c .1))))
+
+-- ---- refused whole (RULE R3.10, R3.11, R3.0.12, R3.0.14)
+
+-- A sheet may be ruled exactly where it is whole and has 52,800 bytes at most; 10 is given exactly where it may not.
+pub may-be-ruled : (s : List ℕ) → Exactly (wholeCases s ≡ true) ((whole s ≡ true) × (length s ≤ 52800))
+unfolding wholeCases
+may-be-ruled s =
+    (λ h. let b = both-true (whole s) (leb (length s) 52800) h in (b .0, leb-true (length s) 52800 (b .1)), λ b. simp (b .0, le-leb (length s) 52800 (b .1)))
+
+pub ten-exactly : (s : List ℕ) (room : ℕ) → Exactly (sheetOf s room .0 .refusal ≡ 10) (wholeCases s ≡ false)
+ten-exactly = why.ten-exactly
+
+-- 11 is given exactly where it may, and the room has less than 96 bytes for each case.
+pub eleven-exactly : (s : List ℕ) (room : ℕ) → Exactly (sheetOf s room .0 .refusal ≡ 11) ((wholeCases s ≡ true) × (room < casesIn s * 96))
+eleven-exactly = why.eleven-exactly
 
 -- ---- answers
 

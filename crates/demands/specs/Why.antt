@@ -8,13 +8,14 @@ use native.Mathlib.Omega.{arith}
 use lib.ListN.{length, take, drop, length-append}
 use lib.Seq.{take-at, take-append-seam}
 use lib.Dec.{leb, eqb}
-use borrow.Author.Tests.{leb-true, le-leb, eqb-true, eqb-false}
+use borrow.Author.Tests.{leb-true, leb-false, le-leb, lt-leb, eqb-true, eqb-false}
 use Rattle.wire.specs.Laid.{laid, row}
 use Rattle.wire.specs.Tests.{pick, firstFailed}
 use Rattle.wire.proofs.Tests.{either, none-fails}
 use Rattle.wire.proofs.Rows.{row-most, row-same}
 use Rattle.record.specs.Record.{factsOf, recordBytes}
 use Rattle.forms.specs.Forms.{formLength}
+use Rattle.ruling.specs.Origins.{Exactly}
 use Rattle.refusals.specs.Tests.{lengthOk, zerosOk, listsOk, formTests, factTests}
 use Rattle.cases.specs.Words.{Facts}
 use Rattle.cases.specs.declared.Reading.{Reading}
@@ -147,6 +148,34 @@ module _ (s : List ℕ) (room : ℕ) where
       either (SheetAnswered s room) (eqb number 0) (ruledWhole s (casesIn s)) (refusedWhole number)
       (λ h. inl (refl, sheet-fits (eqb-true number 0 h)))
       (λ h. refused-whole number (other (10 ∷ 11 ∷ []) number sheet-told h))
+
+  -- which of the two numbers, exactly
+  told-number : sheetOf s room .0 .refusal ≡ number
+  unfolding sheetOf
+  told-number =
+      either (λ (a : SheetAnswer × List ℕ). a .0 .refusal ≡ number) (eqb number 0) (ruledWhole s (casesIn s)) (refusedWhole number)
+      (λ h. sym (eqb-true number 0 h)) (λ h. refl)
+
+  number-whole : (b c : Bool) → wholeCases s ≡ b → leb (casesIn s * 96) room ≡ c → number ≡ pick b (pick c 0 11) 10
+  unfolding sheetRefusalOf
+  number-whole b c h k = rw (h, k)
+
+  pub ten-exactly : Exactly (sheetOf s room .0 .refusal ≡ 10) (wholeCases s ≡ false)
+  ten-exactly = (λ e. by-test (wholeCases s) (leb (casesIn s * 96) room) refl refl (sym told-number ∙ e), λ h. told-number ∙ number-whole false _ h refl) where
+    by-test : (b c : Bool) → wholeCases s ≡ b → leb (casesIn s * 96) room ≡ c → number ≡ 10 → wholeCases s ≡ false
+    by-test true true h k e = absurd (eqb-false 0 10 refl (sym (number-whole true true h k) ∙ e))
+    by-test true false h k e = absurd (eqb-false 11 10 refl (sym (number-whole true false h k) ∙ e))
+    by-test false c h k e = h
+
+  pub eleven-exactly : Exactly (sheetOf s room .0 .refusal ≡ 11) ((wholeCases s ≡ true) × (room < casesIn s * 96))
+  eleven-exactly = (
+    λ e. by-test (wholeCases s) (leb (casesIn s * 96) room) refl refl (sym told-number ∙ e),
+    λ h. told-number ∙ number-whole true false (h .0) (lt-leb (casesIn s * 96) room (h .1)),
+  ) where
+    by-test : (b c : Bool) → wholeCases s ≡ b → leb (casesIn s * 96) room ≡ c → number ≡ 11 → (wholeCases s ≡ true) × (room < casesIn s * 96)
+    by-test true true h k e = absurd (eqb-false 0 11 refl (sym (number-whole true true h k) ∙ e))
+    by-test true false h k e = (h, leb-false (casesIn s * 96) room k)
+    by-test false c h k e = absurd (eqb-false 10 11 refl (sym (number-whole false c h k) ∙ e))
 
 pub empty-sheet : (room : ℕ) → sheetOf [] room ≡ (record { refusal = 0; written = 0; ruled = 0; refused = 0 }, [])
 unfolding sheetOf sheetRefusalOf wholeCases whole cut cutBy row ruledIn

@@ -1,4 +1,5 @@
--- The form of a case record (RULE R2.6): what each kind has that the others have not. All that a further kind costs stands here and in Heads.
+-- The form of a case record (RULE R2.6): what each kind has that the others have not. A further kind is a case more of each definition here and a
+-- pair more in Heads; what stands above knows no kind, but for the tests of what its tail may say.
 use Prim.Native.Nat.{ℕ}
 use mathlib.Core.List.{List, []}
 use lib.ListN.{length}

@@ -1,5 +1,5 @@
 // The form of a case record: each kind has its length, and says behind the 88 bytes that all kinds have what it says besides (RULE R2.6.88).
-// A further kind is a case more of every `match` here, and a pair more. Refuses nothing: the tests of `refusals` hold length and head against
+// A further kind is a pair and a case more in each function here. Refuses nothing: the tests of `refusals` hold length and head against
 // the pairs that stand here.
 ghost use mathlib.Core.Path.{_≡_};
 ghost use Prim.Native.Nat.{_≤_};
