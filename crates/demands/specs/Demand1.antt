@@ -6,6 +6,7 @@
 use Prim.Native.Nat.{ℕ, _≤_, _<_}
 use mathlib.Core.Path.{_≡_}
 use mathlib.Core.Bool.{true, false}
+use mathlib.Core.Logic.{_⊎_}
 use mathlib.Core.List.{List, [], _∷_, _++_}
 use lib.ListN.{length}
 use lib.Dec.{leb}
@@ -18,22 +19,23 @@ use Rattle.record.proofs.Lengths.{long-as-form}
 use Rattle.refusals.specs.Tests.{formTests, factTests}
 use Rattle.cases.specs.Words.{Facts}
 use Rattle.cases.specs.declared.Reading.{Reading}
-use Rattle.cases.specs.Cases.{refusalOf, writeRefusalOf, writingOf}
+use Rattle.cases.specs.Cases.{refusalOf, readingOf, writeRefusalOf, writingOf}
+use Rattle.fillings.specs.Fillings.{fillNumber, fillSheetRefusalOf}
 use Rattle.cases.proofs as cases
 use Rattle.ruling.proofs as ruling
 use Rattle.answer.specs.Answer.{caseTests, caseRefusalOf, caseOf}
 use Rattle.answer.proofs as answer
 use Rattle.sheet.specs.declared.SheetAnswer.{SheetAnswer}
-use Rattle.sheet.specs.Sheet.{casesIn, wholeCases, sheetOf}
+use Rattle.sheet.specs.Sheet.{caseAt, casesIn, wholeCases, sheetOf}
 use Rattle.sheet.proofs as sheet
 use Rattle.text.specs.Text.{letters}
-use Rattle.lines.specs.Lines.{header, sheetLine}
-use Rattle.report.specs.Report.{ruledText, textOf}
+use Rattle.lines.specs.Lines.{header, refusedLine, sheetLine}
+use Rattle.report.specs.Report.{lineOf, ruledText, textOf}
 use Rattle.report.proofs as report
 use Rattle.desk.specs.declared.DeskSheet.{DeskSheet}
 use Rattle.desk.specs.Desk.{deskSheet}
 use Rattle.desk.proofs as desk
-use Rattle.demands.specs.Ends.{readNumbers, writeNumbers, caseNumbers, Told, Answered, Ended, SheetAnswered, SheetEnded, Entered}
+use Rattle.demands.specs.Ends.{readNumbers, writeNumbers, caseNumbers, entryNumbers, OneOf, Told, Answered, Ended, SheetAnswered, SheetEnded, Entered}
 use Rattle.demands.specs.Why as why
 
 -- No caller tests anything first: whatever they are given, the entry points ask nothing beyond their types (the buffer of `print_sheet` has 65,536
@@ -125,6 +127,15 @@ empty-sheet = why.empty-sheet
 -- Each case of a sheet gets the 96 bytes of its answer or, where it is bad, one refusal record of 12 bytes, with its index and one of 3 to 9.
 pub entries : (s : List ℕ) (k : ℕ) → k < casesIn s → Entered s k
 entries = why.entered
+
+-- Its printed line tells a refused one by its index and one of the same numbers, and so does filling a sheet of a case that it leaves: the
+-- quotes have been tested with the sheet.
+pub lines-entered : (s : List ℕ) (k : ℕ) → k < casesIn s
+    → (readingOf (caseAt s k) .refusal ≡ 0) ⊎ (OneOf entryNumbers (readingOf (caseAt s k) .refusal) × (lineOf s k ≡ refusedLine k (readingOf (caseAt s k) .refusal)))
+lines-entered = why.line-entered
+
+pub left-told : (q s : List ℕ) (k : ℕ) → fillSheetRefusalOf q s ≡ 0 → k < casesIn s → Told entryNumbers (fillNumber q s k)
+left-told = why.left-told
 
 -- ---- the printer
 

@@ -2,13 +2,14 @@
 -- of kind 2 as the same facts of kind 1, and where its quotes are too wide to trust, as these facts without their quotes. Every other statement on
 -- cases, demand 3 among them, is over the form of a record and so of both kinds.
 use Prim.Native.Nat.{ℕ, _+_, _*_, _≤_, _<_}
-use mathlib.Core.Path.{_≡_, refl}
+use mathlib.Core.Path.{_≡_, refl, sym, ap, _∙_}
 use mathlib.Core.Bool.{true, false}
 use mathlib.Core.List.{List}
 use lib.ListN.{length}
 use contract.Lifetimes.{Lfts}
 use denote.Ref.{RefT, now}
 use native.Mathlib.Omega.{arith}
+use Rattle.wire.specs.Laid.{laid}
 use Rattle.wire.specs.Numbers.{AreBytes, numberAt}
 use Rattle.wire.proofs.Tests.{range-ends}
 use Rattle.facts.specs.Numbers.{mills}
@@ -37,6 +38,8 @@ use Rattle.kinds.specs.Recast.{asKindOne, withoutQuotes}
 use Rattle.kinds.proofs.Rulings as rulings
 use Rattle.kinds.proofs.Before as before
 use Rattle.kinds.proofs.Recast as recasts
+use Rattle.kinds.proofs.Tested as tested
+use Rattle.alike.specs.Tested.{testedIn}
 use Rattle.demands.specs.Demand2.{Said}
 
 -- ---- the kinds
@@ -152,6 +155,50 @@ pub wide-answered : (s : List ℕ) → AreBytes s → readingOf s .refusal ≡ 0
     → (readingOf (recordBytes (withoutQuotes (factsOf s))) ≡ accepted (withoutQuotes (factsOf s)))
     × ((room : ℕ) → caseOf (recordBytes (withoutQuotes (factsOf s))) room ≡ caseOf s room)
 wide-answered = recasts.wide-answered
+
+-- So every two calls of `rule_case`, or of `desk_rule_case`, on such cases with as much room: the same number, and the same bytes are written.
+module _ (κs κs' : Lfts 2) (s s' t t' out out' o o' : RefT (List ℕ)) (n m : ℕ) (small : AreBytes (now s)) (good : readingOf (now s) .refusal ≡ 0)
+    (room : length (now out) ≡ length (now o)) where
+  abbrev SameCalls : Type 0
+  SameCalls = (m ≡ n) × ((a : List ℕ) × (now out' ≡ laid a (now out)) × (now o' ≡ laid a (now o)))
+
+  same-said : ((k : ℕ) → caseOf (now t) k ≡ caseOf (now s) k)
+      → Said (caseOf (now s) (length (now out)) .0) (caseOf (now s) (length (now out)) .1) n (now out) (now out')
+      → Said (caseOf (now t) (length (now o)) .0) (caseOf (now t) (length (now o)) .1) m (now o) (now o') → SameCalls
+  same-said same p q =
+      let e : caseOf (now t) (length (now o)) ≡ caseOf (now s) (length (now out)) = same (length (now o)) ∙ ap (caseOf (now s)) (sym room) in (
+        q .0 ∙ ap (λ (x : ℕ × List ℕ). x .0) e ∙ sym (p .0),
+        (caseOf (now s) (length (now out)) .1, p .1, q .1 ∙ ap (λ (x : ℕ × List ℕ). laid (x .1) (now o)) e),
+      )
+
+  -- where the quotes can be trusted: the same facts of kind 1
+  module _ (trusted : tooWide (factsOf (now s) .form) (factsOf (now s) .market) ≡ false) (is : now t ≡ recordBytes (asKindOne (factsOf (now s)))) where
+    narrow-case : (k : ℕ) → caseOf (now t) k ≡ caseOf (now s) k
+    narrow-case k = ap (λ (c : List ℕ). caseOf c k) is ∙ narrow-answered (now s) small good trusted .1 k
+
+    pub rule-case-narrow : answer.rule_case.Reads.Post κs (s, (out, tt)) n (s', (out', tt)) → answer.rule_case.Reads.Post κs' (t, (o, tt)) m (t', (o', tt)) → SameCalls
+    rule-case-narrow = same-said narrow-case
+
+    pub desk-rule-case-narrow : desk.desk_rule_case.Reads.Post κs (s, (out, tt)) n (s', (out', tt)) → desk.desk_rule_case.Reads.Post κs' (t, (o, tt)) m (t', (o', tt)) → SameCalls
+    desk-rule-case-narrow = same-said narrow-case
+
+  -- where they can't: these facts without their quotes
+  module _ (wide : tooWide (factsOf (now s) .form) (factsOf (now s) .market) ≡ true) (is : now t ≡ recordBytes (withoutQuotes (factsOf (now s)))) where
+    wide-case : (k : ℕ) → caseOf (now t) k ≡ caseOf (now s) k
+    wide-case k = ap (λ (c : List ℕ). caseOf c k) is ∙ wide-answered (now s) small good wide .1 k
+
+    pub rule-case-wide : answer.rule_case.Reads.Post κs (s, (out, tt)) n (s', (out', tt)) → answer.rule_case.Reads.Post κs' (t, (o, tt)) m (t', (o', tt)) → SameCalls
+    rule-case-wide = same-said wide-case
+
+    pub desk-rule-case-wide : desk.desk_rule_case.Reads.Post κs (s, (out, tt)) n (s', (out', tt)) → desk.desk_rule_case.Reads.Post κs' (t, (o, tt)) m (t', (o', tt)) → SameCalls
+    desk-rule-case-wide = same-said wide-case
+
+-- ---- demand 3 over this TP (RULE R12.5.4): the price that a limit is tested against is that of the same facts of kind 1, or without their quotes
+pub narrow-tested : (f : Facts) (who : Side) → tooWide (f .form) (f .market) ≡ false → testedIn (asKindOne f) who ≡ testedIn f who
+narrow-tested = tested.narrow-tested
+
+pub wide-tested : (f : Facts) (who : Side) → tooWide (f .form) (f .market) ≡ true → testedIn (withoutQuotes f) who ≡ testedIn f who
+wide-tested = tested.wide-tested
 
 -- ---- the differential of what is accepted (RULE R2.6.88, R3.5, R5.7)
 

@@ -29,9 +29,9 @@ use Rattle.cut.proofs.Laws.{case-is}
 use Rattle.sheet.specs.Sheet.{whole, caseAt, casesIn, refusalBytes, entryBytes, ruledIn, wholeCases, sheetRefusalOf, refusedWhole, ruledWhole, sheetOf}
 use Rattle.sheet.proofs.Turns.{whole-cut, whole-few}
 use Rattle.text.specs.Text.{letters, spelt, decimalOf}
-use Rattle.lines.specs.Lines.{header, endLine, sheetLine}
+use Rattle.lines.specs.Lines.{header, refusedLine, endLine, sheetLine}
 use Rattle.lines.proofs.Lengths.{header-most, end-most, sheet-most}
-use Rattle.report.specs.Report.{lineOf, ruledText, textOf}
+use Rattle.report.specs.Report.{caseLine, lineOf, ruledText, textOf}
 use Rattle.report.proofs.Lines.{line-most}
 use Rattle.round_trips.proofs.Again.{sound}
 use Rattle.facts.specs.declared.Mills.{Mills}
@@ -49,7 +49,7 @@ use Rattle.lookups.proofs.Better.{no-better-said, is-one}
 use Rattle.filling.proofs.Answers.{number-told}
 use Rattle.lookups.proofs.Again.{filled-twice, refused-kept, case-good, fill-bytes, fill-facts}
 use Rattle.lookups.proofs.Filled.{filled-length, filled-outside}
-use Rattle.fillings.specs.Fillings.{fillSheetRefusalOf, filledCase, fillSheetOf}
+use Rattle.fillings.specs.Fillings.{fillNumber, fillSheetRefusalOf, filledCase, fillSheetOf}
 use Rattle.fillings.proofs.Laws.{refuses, whole-first, filled-whole, sheet-as-long, whole-filled, many-filled, case-filled}
 use Rattle.demands.specs.Ends.{fillSheetNumbers, SheetFilled, readNumbers, entryNumbers, fillNumbers, OneOf, Told, Answered, Ended, FillEnded, SheetAnswered, SheetEnded, Entered}
 
@@ -218,6 +218,18 @@ module _ (s : List ℕ) (k : ℕ) (within : k < casesIn s) where
   unfolding entryBytes refusalBytes
   entered = either As (eqb n 0) _ _ (λ h. inl (eqb-true n 0 h, refl, answer-length (readingOf c .facts))) (λ h. inr (other entryNumbers n entry-told h, refl, refl))
 
+-- its printed line likewise: a refused one tells one of the same numbers
+module _ (s : List ℕ) (k : ℕ) (within : k < casesIn s) where
+  abbrev r : ℕ
+  r = readingOf (caseAt s k) .refusal
+
+  abbrev Line : List ℕ → Type 0
+  Line w = (r ≡ 0) ⊎ (OneOf entryNumbers r × (w ≡ refusedLine k r))
+
+  pub line-entered : Line (lineOf s k)
+  unfolding caseLine
+  line-entered = either Line (eqb r 0) _ _ (λ h. inl (eqb-true r 0 h)) (λ h. inr (other entryNumbers r (entry-told s k within) h, refl))
+
 -- ---- the printer's text: 600 lines of 96 bytes at most, the header and END
 module _ (s : List ℕ) where
   pub text-answered : (wholeCases s ≡ true → textOf s ≡ ruledText s (casesIn s)) × (wholeCases s ≡ false → textOf s ≡ sheetLine 10)
@@ -318,6 +330,19 @@ module _ (q s : List ℕ) where
     by-test false h =
         let some = eqb-false (fillSheetRefusalOf q s) 0 h in
         inr (rw sheet-number (other fillSheetNumbers (fillSheetRefusalOf q s) sheet-refusal-told h), sym (refuses q s (fillSheetRefusalOf q s) refl some .1))
+
+-- a case of it that is left has one of the numbers of an entry: the quotes were tested with the sheet
+pub left-told : (q s : List ℕ) (k : ℕ) → fillSheetRefusalOf q s ≡ 0 → k < casesIn s → Told entryNumbers (fillNumber q s k)
+unfolding fillSheetRefusalOf fillRefusalOf quotesRefusalOf
+left-told q s k good within =
+    let c = caseAt s k in
+    let quotes = none-fails (wholeCases s) 10 _ tt good .1 in
+    rw (number-told q c)
+    (either (Told entryNumbers) (eqb (refusalOf c) 0) (foundFor q c .refusal) (refusalOf c)
+    (λ e.
+    let time = sound (factsOf c) (passed-facts c (eqb-true (refusalOf c) 0 e)) .executed in
+    inl (found-number q (factsOf c .trade .executed .0) ∙ simp time quotes))
+    (λ e. rw (read-number c) at (entry-told s k within)))
 
 -- ---- filled twice, a sheet too
 whole-twice : (q s : List ℕ) → fillSheetRefusalOf q s ≡ 0 → fillSheetOf q (fillSheetOf q s .1) ≡ fillSheetOf q s

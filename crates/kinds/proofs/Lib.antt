@@ -1,3 +1,4 @@
 pub mod Rulings
 pub mod Before
 pub mod Recast
+pub mod Tested

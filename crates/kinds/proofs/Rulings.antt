@@ -86,8 +86,11 @@ module _ (f : Facts) (trusted : tooWide (f .form) (f .market) ≡ false) where
   ruling-before = if-before (wayIn f)
 
   -- and the same facts of kind 1 are ruled alike
+  pub narrow-theory : theoryIn (asKindOne f) ≡ theoryIn f
+  narrow-theory = theory-trusted One (f .request .side) (f .market) refl ∙ sym trusted-theory
+
   pub narrow-same : rulingOf (asKindOne f) ≡ rulingOf f
-  narrow-same = recast-same f (f .market) (theory-trusted One (f .request .side) (f .market) refl ∙ sym trusted-theory)
+  narrow-same = recast-same f (f .market) narrow-theory
 
 -- ---- quotes that can't
 module _ (f : Facts) (wide : tooWide (f .form) (f .market) ≡ true) where
@@ -100,8 +103,11 @@ module _ (f : Facts) (wide : tooWide (f .form) (f .market) ≡ true) where
   without Buy = refl
   without Sell = refl
 
+  pub bare-theory : theoryIn (withoutQuotes f) ≡ theoryIn f
+  bare-theory = without (f .request .side) ∙ sym wide-theory
+
   pub wide-same : rulingOf (withoutQuotes f) ≡ rulingOf f
-  wide-same = recast-same f (withoutQuotes f .market) (without (f .request .side) ∙ sym wide-theory)
+  wide-same = recast-same f (withoutQuotes f .market) bare-theory
 
   -- no quote is the origin of TP
   pub never-quoted : originOf (rulingOf f) ≡ 1 → ⊥
