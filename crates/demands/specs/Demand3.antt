@@ -4,7 +4,7 @@
 use Prim.Native.Nat.{ℕ, _≤_, _<_}
 use mathlib.Core.Path.{_≡_, refl, sym, ap, subst, _∙_}
 use mathlib.Core.Logic.{⊎-elim}
-use mathlib.Core.List.{List, [], _∷_}
+use mathlib.Core.List.{List, [], _∷_, _++_}
 use native.Mathlib.Omega.{arith}
 use lib.ListN.{length, getD, set, take}
 use lib.Seq.{getD-set-other}
@@ -24,6 +24,7 @@ use Rattle.bands.specs.Table.{bandOf}
 use Rattle.bands.specs.Amounts.{inError, movedBy}
 use Rattle.parties.specs.Parties.{bySide}
 use Rattle.way.specs.Way.{obviousOpen, openingOpen, catastrophicOpen, wayOf}
+use Rattle.width.specs.Width.{apart}
 use Rattle.theory.specs.Theory.{theoryOf}
 use Rattle.agreement.specs.Agreed.{inTime, heededOf}
 use Rattle.act.specs.Limits.{catastrophicStopped}
@@ -48,7 +49,7 @@ use Rattle.alike.proofs.Sheets as sheets
 use Rattle.desk.specs.declared.DeskSheet.{DeskSheet}
 use Rattle.desk.specs.Desk.{deskSheet}
 use Rattle.desk.proofs as desk
-use Rattle.specimen.specs.Good.{goodCase}
+use Rattle.specimen.specs.Good.{goodCase, goodTwo}
 use Rattle.demands.specs.Why as why
 use Rattle.demands.specs.Demand2.{Said}
 use Rattle.demands.specs.Edges.{at, toCustomer}
@@ -113,12 +114,15 @@ blind-sheets who s t j a room =
       },
     )
 
--- The premise holds of two sheets that differ: the good record, and the same with another code of its buyer.
-abbrev otherBuyer : List ℕ
-otherBuyer = stored goodCase 48 (67 ∷ 68 ∷ 51 ∷ 52 ∷ [])
+-- The premise holds of two sheets that differ: a case of kind 2 and the good record behind it, at 92, and the same with another code of its buyer.
+abbrev mixed : List ℕ
+mixed = goodTwo ++ goodCase
 
-pub alike-sheets : AlikeButOne Buy goodCase otherBuyer 0
-unfolding pairs known begins caseLength cutBy cut caseAt startOf readingOf refusalOf headOk zerosOk listsOk codesOk codeOk codeByteOk pricesOk quotesPriced countsOk timesOk limitsOk inRange numberAt factsOf tradeOf marketOf requestOf partyAt settlementOf priceOf momentOf sideOf kindOf dayOf agreementOf flagOf testedIn bandOf inError movedBy wayOf obviousOpen openingOpen catastrophicOpen theoryOf heededOf inTime testedAt isLength formOf
+abbrev otherBuyer : List ℕ
+otherBuyer = stored mixed 140 (67 ∷ 68 ∷ 51 ∷ 52 ∷ [])
+
+pub alike-sheets : AlikeButOne Buy mixed otherBuyer 1
+unfolding pairs known begins caseLength cutBy cut caseAt startOf readingOf refusalOf headOk zerosOk listsOk codesOk codeOk codeByteOk pricesOk quotesPriced countsOk timesOk limitsOk inRange numberAt factsOf tradeOf marketOf requestOf partyAt settlementOf priceOf momentOf sideOf kindOf dayOf agreementOf flagOf testedIn bandOf inError movedBy wayOf obviousOpen openingOpen catastrophicOpen theoryOf heededOf inTime testedAt isLength formOf apart
 alike-sheets =
     record {
       long = refl;
@@ -128,15 +132,15 @@ alike-sheets =
       second = refl;
       untold = tt;
     } where
-      kept : (i : ℕ) → ((k : ℕ) → 48 ≤ k → k < 56 → i ≡ k → ⊥) → getD otherBuyer i 0 ≡ getD goodCase i 0
+      kept : (i : ℕ) → ((k : ℕ) → 140 ≤ k → k < 148 → i ≡ k → ⊥) → getD otherBuyer i 0 ≡ getD mixed i 0
       kept i d =
-          getD-set-other (set (set (set goodCase 48 67) 49 68) 50 51) 51 i 52 0 (d 51 (lit≤ tt) (lit< tt))
-          ∙ getD-set-other (set (set goodCase 48 67) 49 68) 50 i 51 0 (d 50 (lit≤ tt) (lit< tt))
-          ∙ getD-set-other (set goodCase 48 67) 49 i 68 0 (d 49 (lit≤ tt) (lit< tt))
-          ∙ getD-set-other goodCase 48 i 67 0 (d 48 (lit≤ tt) (lit< tt))
+          getD-set-other (set (set (set mixed 140 67) 141 68) 142 51) 143 i 52 0 (d 143 (lit≤ tt) (lit< tt))
+          ∙ getD-set-other (set (set mixed 140 67) 141 68) 142 i 51 0 (d 142 (lit≤ tt) (lit< tt))
+          ∙ getD-set-other (set mixed 140 67) 141 i 68 0 (d 141 (lit≤ tt) (lit< tt))
+          ∙ getD-set-other mixed 140 i 67 0 (d 140 (lit≤ tt) (lit< tt))
 
-pub sheets-differ : goodCase ≡ otherBuyer → ⊥
-sheets-differ e = eqb-false 65 67 refl (ap (λ (l : List ℕ). getD l 48 0) e)
+pub sheets-differ : mixed ≡ otherBuyer → ⊥
+sheets-differ e = eqb-false 65 67 refl (ap (λ (l : List ℕ). getD l 140 0) e)
 
 -- ---- so every call: what is said above of the definitions, of the promises as Rattle reads them from the contracts
 
