@@ -172,26 +172,32 @@ module _ (κs κs' : Lfts 2) (s s' t t' out out' o o' : RefT (List ℕ)) (n m : 
       )
 
   -- where the quotes can be trusted: the same facts of kind 1
-  module _ (trusted : tooWide (factsOf (now s) .form) (factsOf (now s) .market) ≡ false) (is : now t ≡ recordBytes (asKindOne (factsOf (now s)))) where
-    narrow-case : (k : ℕ) → caseOf (now t) k ≡ caseOf (now s) k
-    narrow-case k = ap (λ (c : List ℕ). caseOf c k) is ∙ narrow-answered (now s) small good trusted .1 k
+  abbrev Narrow : Type 0
+  Narrow = (tooWide (factsOf (now s) .form) (factsOf (now s) .market) ≡ false) × (now t ≡ recordBytes (asKindOne (factsOf (now s))))
 
-    pub rule-case-narrow : answer.rule_case.Reads.Post κs (s, (out, tt)) n (s', (out', tt)) → answer.rule_case.Reads.Post κs' (t, (o, tt)) m (t', (o', tt)) → SameCalls
-    rule-case-narrow = same-said narrow-case
+  narrow-case : Narrow → (k : ℕ) → caseOf (now t) k ≡ caseOf (now s) k
+  narrow-case h k = ap (λ (c : List ℕ). caseOf c k) (h .1) ∙ narrow-answered (now s) small good (h .0) .1 k
 
-    pub desk-rule-case-narrow : desk.desk_rule_case.Reads.Post κs (s, (out, tt)) n (s', (out', tt)) → desk.desk_rule_case.Reads.Post κs' (t, (o, tt)) m (t', (o', tt)) → SameCalls
-    desk-rule-case-narrow = same-said narrow-case
+  pub rule-case-narrow : Narrow → answer.rule_case.Reads.Post κs (s, (out, tt)) n (s', (out', tt)) → answer.rule_case.Reads.Post κs' (t, (o, tt)) m (t', (o', tt)) → SameCalls
+  rule-case-narrow h = same-said (narrow-case h)
+
+  pub desk-rule-case-narrow : Narrow → desk.desk_rule_case.Reads.Post κs (s, (out, tt)) n (s', (out', tt))
+      → desk.desk_rule_case.Reads.Post κs' (t, (o, tt)) m (t', (o', tt)) → SameCalls
+  desk-rule-case-narrow h = same-said (narrow-case h)
 
   -- where they can't: these facts without their quotes
-  module _ (wide : tooWide (factsOf (now s) .form) (factsOf (now s) .market) ≡ true) (is : now t ≡ recordBytes (withoutQuotes (factsOf (now s)))) where
-    wide-case : (k : ℕ) → caseOf (now t) k ≡ caseOf (now s) k
-    wide-case k = ap (λ (c : List ℕ). caseOf c k) is ∙ wide-answered (now s) small good wide .1 k
+  abbrev Bare : Type 0
+  Bare = (tooWide (factsOf (now s) .form) (factsOf (now s) .market) ≡ true) × (now t ≡ recordBytes (withoutQuotes (factsOf (now s))))
 
-    pub rule-case-wide : answer.rule_case.Reads.Post κs (s, (out, tt)) n (s', (out', tt)) → answer.rule_case.Reads.Post κs' (t, (o, tt)) m (t', (o', tt)) → SameCalls
-    rule-case-wide = same-said wide-case
+  wide-case : Bare → (k : ℕ) → caseOf (now t) k ≡ caseOf (now s) k
+  wide-case h k = ap (λ (c : List ℕ). caseOf c k) (h .1) ∙ wide-answered (now s) small good (h .0) .1 k
 
-    pub desk-rule-case-wide : desk.desk_rule_case.Reads.Post κs (s, (out, tt)) n (s', (out', tt)) → desk.desk_rule_case.Reads.Post κs' (t, (o, tt)) m (t', (o', tt)) → SameCalls
-    desk-rule-case-wide = same-said wide-case
+  pub rule-case-wide : Bare → answer.rule_case.Reads.Post κs (s, (out, tt)) n (s', (out', tt)) → answer.rule_case.Reads.Post κs' (t, (o, tt)) m (t', (o', tt)) → SameCalls
+  rule-case-wide h = same-said (wide-case h)
+
+  pub desk-rule-case-wide : Bare → desk.desk_rule_case.Reads.Post κs (s, (out, tt)) n (s', (out', tt))
+      → desk.desk_rule_case.Reads.Post κs' (t, (o, tt)) m (t', (o', tt)) → SameCalls
+  desk-rule-case-wide h = same-said (wide-case h)
 
 -- ---- demand 3 over this TP (RULE R12.5.4): the price that a limit is tested against is that of the same facts of kind 1, or without their quotes
 pub narrow-tested : (f : Facts) (who : Side) → tooWide (f .form) (f .market) ≡ false → testedIn (asKindOne f) who ≡ testedIn f who
