@@ -42,7 +42,7 @@ impl Call {
 fn little_stack() {
     let mut check_case = Call::new("desk_check_case", 96);
     let mut rule_case = Call::new("desk_rule_case", 200);
-    let mut rule_sheet = Call::new("desk_rule_sheet", 264);
+    let mut rule_sheet = Call::new("desk_rule_sheet", 232);
     let mut print_sheet = Call::new("desk_print_sheet", 312);
 
     let mut random = Random::new(settings::seed());

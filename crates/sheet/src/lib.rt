@@ -35,14 +35,16 @@ fn put_refusal(out: &mut [u8], index: u32, number: u16)
     wire::put_u16(out, 10, 0);
 }
 
-// The entry of one case, at the start of the buffer.
+// The entry of one case, at the start of the buffer. What `answer::answer_case` does is done here by its two calls: the case is then lent to the
+// test and to the ruling as one, which spares the stack a second slice.
 fn rule_entry(case: &[u8], index: u32, out: &mut [u8]) -> Entry
     requires { ⌜ 96 ≤ length (now out) ⌝ }
     ensures { λ r. ⌜ (r .bytes ≡ length (entryBytes index (readingOf (now (case .entry))))) × (r .ruled ≡ ruledOne (readingOf (now (case .entry)))) × (now (out .exit) ≡ laid (entryBytes index (readingOf (now (case .entry)))) (now (out .entry))) ⌝ }
 {
     let n = cases::check_case(case);
     if n == 0 {
-        answer::answer_case(out, case);
+        let f = figures::judge(case);
+        notices::put_answer(out, f, wire::read_u32(case, 48), wire::read_u32(case, 56));
         return Entry {
             bytes: 96,
             ruled: 1,

@@ -1,5 +1,7 @@
 use mathlib.Core.Path.{sym, _∙_}
+use native.Mathlib.Omega.{arith}
 use Rattle.cases.proofs.Laws.{passed-whole}
+use Rattle.answer.proofs.Written.{answered}
 use Rattle.sheet.proofs.Entries.{enter-ruled, enter-refused}
 use borrow.Author.Needs.{needs}
 use Rattle.sheet.proofs.rule_entry.Statement.{statement}
@@ -8,10 +10,21 @@ use Rattle.sheet.proofs.rule_entry.Tie as tie
 check-case-requires : tie.Need-check-case-requires
 check-case-requires c κs = search needs
 
-answer-case-requires : tie.Need-answer-case-requires
-answer-case-requires c κs =
-    let t = c .before in
-    (t .before .before .before .before .pre, passed-whole _ (sym (t .before .check-case .ensures) ∙ t .if1 .taken))
+judge-requires : tie.Need-judge-requires
+judge-requires c κs = passed-whole _ (sym (c .before .check-case .ensures) ∙ c .if1 .taken)
+
+read-u32-requires : tie.Need-read-u32-requires
+read-u32-requires c κs =
+    let t = c .before .before in
+    omega (arith, passed-whole _ (sym (t .before .check-case .ensures) ∙ t .if1 .taken))
+
+read-u32-requires-2 : tie.Need-read-u32-requires-2
+read-u32-requires-2 c κs =
+    let t = c .before .before .before in
+    omega (arith, passed-whole _ (sym (t .before .check-case .ensures) ∙ t .if1 .taken))
+
+put-answer-requires : tie.Need-put-answer-requires
+put-answer-requires c κs = search needs
 
 same-length : tie.Need-same-length
 same-length c = search needs
@@ -19,8 +32,13 @@ same-length c = search needs
 returns : tie.Need-returns
 returns c =
     let put = c .before .before in
-    let t = put .before .before in
-    enter-ruled _ _ _ _ _ (t .before .check-case .ensures) (t .if1 .taken) (put .answer-case .ensures)
+    let seller = put .before in
+    let buyer = seller .before in
+    let judge = buyer .before .before in
+    let t = judge .before in
+    let known = t .before .before .before in
+    enter-ruled _ _ _ _ _ (t .before .check-case .ensures) (t .if1 .taken)
+    (answered _ _ _ _ _ _ (λ i. known .shared-slice-known .given i .fits) (judge .judge .ensures) (buyer .read-u32 .ensures) (seller .read-u322 .ensures) (put .put-answer .ensures))
 
 cast-put-refusal : tie.Need-cast-put-refusal
 cast-put-refusal c = search needs
@@ -42,7 +60,10 @@ rule-entry-spec =
     tie.close
     (tie.spec
     check-case-requires
-    answer-case-requires
+    judge-requires
+    read-u32-requires
+    read-u32-requires-2
+    put-answer-requires
     same-length
     returns
     cast-put-refusal
