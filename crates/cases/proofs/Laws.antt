@@ -2,7 +2,7 @@
 use Prim.Native.Nat.{ℕ, _≤_, _<_}
 use mathlib.Core.Path.{_≡_, refl, sym, ap, _∙_}
 use mathlib.Core.Bool.{Bool, true, false, _&&_}
-use mathlib.Core.List.{List, []}
+use mathlib.Core.List.{List, [], _∷_}
 use lib.ListN.{length}
 use lib.Dec.{leb, eqb}
 use borrow.Author.Tests.{le-leb, lt-leb, leb-true, eq-eqb, ne-eqb, eqb-true, eqb-false}
@@ -12,7 +12,7 @@ use Rattle.forms.specs.Forms.{formLength}
 use Rattle.forms.specs.Heads.{known, sizeIn, kindIn, IsCase}
 use Rattle.forms.proofs.Heads.{has-88, case-length}
 use Rattle.record.specs.Record.{factsOf, recordBytes}
-use Rattle.refusals.specs.Tests.{lengthOk, headOk, zerosOk, listsOk, formTests, factTests, formFaultOf, faultOf}
+use Rattle.refusals.specs.Tests.{lengthOk, headOk, zerosOk, listsOk, codedOk, formTests, factTests, headFaultOf, formFaultOf, faultOf}
 use Rattle.cases.specs.Words.{Facts}
 use Rattle.cases.specs.Cases.{refusalOf, Formed, accepted, refused, readingOf, writeRefusalOf, writingOf}
 
@@ -75,17 +75,46 @@ module _ (s : List ℕ) where
   pub passed-whole : refusalOf s ≡ 0 → 88 ≤ length s
   passed-whole e = has-88 (length s) (formed (passed-form e) .whole)
 
-  -- what is accepted is a case, as long as its head says
-  pub passed-case : refusalOf s ≡ 0 → IsCase s
+  -- what passes the test 2 is a case, as long as its head says
+  head-case : headOk s ≡ true → IsCase s
   unfolding headOk
-  passed-case e =
-      let h = both-true (known (sizeIn s) (kindIn s)) (eqb (sizeIn s) (length s)) (formed (passed-form e) .head) in
+  head-case e =
+      let h = both-true (known (sizeIn s) (kindIn s)) (eqb (sizeIn s) (length s)) e in
       record { pair = h .0; long = sym (eqb-true (sizeIn s) (length s) (h .1)) }
 
-  -- and a case passes the tests 1 and 2
-  pub case-passes : IsCase s → (lengthOk s ≡ true) × (headOk s ≡ true)
-  unfolding headOk
-  case-passes c = (case-length s (c .pair) (c .long), simp (c .pair, eq-eqb (sizeIn s) (length s) (sym (c .long))))
+  -- so what is accepted is one
+  pub passed-case : refusalOf s ≡ 0 → IsCase s
+  passed-case e = head-case (formed (passed-form e) .head)
+
+  -- ---- length and head, asked before the rest: 1 and 2
+  head-first : formFaultOf s ≡ pick (eqb (headFaultOf s) 0) (pick (codedOk s) 0 3) (headFaultOf s)
+  unfolding formFaultOf headFaultOf
+  head-first = first-append ((1, lengthOk s) ∷ (2, headOk s) ∷ []) ((3, codedOk s) ∷ []) (refl, (refl, tt))
+
+  pub head-decides : (n : ℕ) → n ≡ headFaultOf s → (n ≡ 0 → ⊥) → n ≡ refusalOf s
+  head-decides n e h = form-decides n (e ∙ sym (head-first ∙ simp (ne-eqb (headFaultOf s) 0 (λ z. h (e ∙ z))))) h
+
+  pub head-passed : headFaultOf s ≡ 0 → IsCase s
+  unfolding headFaultOf
+  head-passed e = head-case (none-fails (headOk s) 2 _ tt (none-fails (lengthOk s) 1 _ tt e .1) .0)
+
+  -- ---- what is known to be a case passes the tests 1 and 2
+  module _ (c : IsCase s) where
+    pub case-passes : (lengthOk s ≡ true) × (headOk s ≡ true)
+    unfolding headOk
+    case-passes = (case-length s (c .pair) (c .long), simp (c .pair, eq-eqb (sizeIn s) (length s) (sym (c .long))))
+
+    pub case-whole : 88 ≤ length s
+    case-whole = has-88 (length s) (case-passes .0)
+
+    -- so test 3 decides, or the facts do
+    pub coded-decides : codedOk s ≡ false → 3 ≡ refusalOf s
+    unfolding formFaultOf
+    coded-decides e = form-decides 3 (simp (case-passes .0, case-passes .1, e)) (eqb-false 3 0 refl)
+
+    pub case-decides : (n : ℕ) (f : Facts) → codedOk s ≡ true → f ≡ factsOf s → n ≡ faultOf f → n ≡ refusalOf s
+    unfolding formFaultOf
+    case-decides n f e says told = facts-decide n f (simp (case-passes .0, case-passes .1, e)) says told
 
   pub accepted-form : readingOf s .refusal ≡ 0 → formFaultOf s ≡ 0
   accepted-form e = passed-form (accepts e)

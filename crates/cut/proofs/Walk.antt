@@ -13,10 +13,10 @@ use borrow.Author.Tests.{eq-eqb, ne-eqb, eqb-true, eqb-false, ltb-true, ltb-fals
 use Rattle.wire.specs.Numbers.{numberAt}
 use Rattle.wire.proofs.Tests.{both-true}
 use Rattle.forms.specs.Heads.{sizeIn}
-use Rattle.cut.specs.Cut.{caseLength, Parts, uncut, cut, casesIn, caseAt, whole, together, startOf}
+use Rattle.cut.specs.Cut.{IsCase, caseLength, Parts, uncut, cut, casesIn, caseAt, whole, together, startOf}
 use Rattle.cut.proofs.First.{first, length-le}
 use Rattle.cut.proofs.Cut.{cut-end, cut-more}
-use Rattle.cut.proofs.Laws.{together-append, whole-joins}
+use Rattle.cut.proofs.Laws.{together-append, whole-joins, case-is}
 
 -- what was cut goes by its two parts
 by-parts : (p : Parts) (cs : List (List ℕ)) (l : List ℕ) → p .cases ≡ cs → p .left ≡ l → p ≡ record { cases = cs; left = l }
@@ -148,6 +148,10 @@ head-within s from h = let f = first (drop from s) h in omega (arith, f .low, f 
 module _ (s : List ℕ) (i from step : ℕ) (a : At s i from) (l : i < casesIn s) (e : step ≡ caseLength (drop from s)) where
   pub at-lent : take (from + step - from) (drop from s) ≡ caseAt s i
   at-lent = rw (add-sub-cancel-left from step, e) (at-case s i from a (at-more s i from a l))
+
+  -- so what is lent is a case by its head
+  pub at-is : IsCase (take (from + step - from) (drop from s))
+  at-is = rw at-lent (case-is s i l)
 
   pub at-step : At s (i + 1) (from + step)
   at-step = rw e (at-next s i from a (at-more s i from a l))

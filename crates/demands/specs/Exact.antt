@@ -162,8 +162,11 @@ pub put-facts-exact : (κs : Lfts 1) → ExactIn (λ a. a .0) (writing.put_facts
 put-facts-exact = writing.Exact.put-facts-exact
 
 -- ---- refusals, prices, faults
-pub form-fault-exact : (κs : Lfts 1) → Exact (refusals.form_fault.Reads.Post κs)
-form-fault-exact = refusals.Exact.form-fault-exact
+pub head-fault-exact : (κs : Lfts 1) → Exact (refusals.head_fault.Reads.Post κs)
+head-fault-exact = refusals.Exact.head-fault-exact
+
+pub coded-ok-exact : (κs : Lfts 1) → Exact (refusals.coded_ok.Reads.Post κs)
+coded-ok-exact = refusals.Exact.coded-ok-exact
 
 pub unless-exact : Exact (refusals.unless.Reads.Post tt)
 unless-exact = refusals.Exact.unless-exact
@@ -178,6 +181,9 @@ pub fault-exact : Exact (faults.fault.Reads.Post tt)
 fault-exact = faults.Exact.fault-exact
 
 -- ---- cases
+pub check-known-exact : (κs : Lfts 1) → Exact (cases.check_known.Reads.Post κs)
+check-known-exact = cases.Exact.check-known-exact
+
 pub check-case-exact : (κs : Lfts 1) → Exact (cases.check_case.Reads.Post κs)
 check-case-exact = cases.Exact.check-case-exact
 

@@ -1,14 +1,14 @@
 -- The loop over the cases: what holds at its head, with i cases done, and what a turn adds.
 use Prim.Native.Nat.{ℕ, _+_, _-_, _*_, _≤_, _<_, zero-le}
 use mathlib.Core.Path.{_≡_, refl, _∙_}
-use mathlib.Core.List.{List}
+use mathlib.Core.List.{List, []}
 use native.Mathlib.Numerals.{add-one}
 use native.Mathlib.Nat.{suc-mul}
 use native.Mathlib.Omega.{arith}
 use lib.ListN.{length, take, drop}
 use borrow.Rule.Slice.PartMut.{midOf, putMid}
 use Rattle.wire.specs.Laid.{row}
-use Rattle.wire.proofs.Rows.{Ran, row-start, row-turn}
+use Rattle.wire.proofs.Rows.{Ran, ran-at, row-start, row-turn}
 use Rattle.cut.specs.Cut.{caseLength}
 use Rattle.cut.proofs.Walk.{At, at-start, at-lent, at-step}
 use Rattle.sheet.specs.Sheet.{casesIn}
@@ -30,7 +30,7 @@ pub record Turn (q s out₀ out : List ℕ) (i from at filled read : ℕ) : Type
 pub first : (q s out : List ℕ) → Turn q s out out 0 0 0 0 0
 unfolding filledIn readIn
 first q s out =
-    record { walked = at-start s; ran = row-start (told q s) out; counted = refl; summed = refl; most = zero-le; few = omega arith; least = zero-le; same = refl }
+    record { walked = at-start s; ran = row-start [] (told q s) out out 0 (ran-at 0 out zero-le); counted = refl; summed = refl; most = zero-le; few = omega arith; least = zero-le; same = refl }
 
 -- a turn: what is said of case i goes into the part of the buffer from its place on
 pub next : (q s out₀ out ys : List ℕ) (i from at filled read step bytes one more-read : ℕ) → Turn q s out₀ out i from at filled read → i < casesIn s
@@ -47,7 +47,7 @@ next q s out₀ out ys i from at filled read step bytes one more-read t more lon
     let r : more-read ≡ caseRead q s i = rw lent at er in
     record {
       walked = at-step s i from step (t .walked) more long;
-      ran = row-turn (told q s) out₀ out ys i at bytes (t .ran) (f .0) (f .2);
+      ran = row-turn [] (told q s) out₀ out ys i at bytes (t .ran) (f .0) (f .2);
       counted = rw add-one (cc);
       summed = rw add-one (cc);
       most = rw (add-one, suc-mul) (omega arith);

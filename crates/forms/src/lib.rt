@@ -24,7 +24,11 @@ pub fn is_length(n: usize) -> bool
 pub fn is_known(size: u16, kind: u16) -> bool
     ensures { λ r. ⌜ r ≡ known size kind ⌝ }
 {
-    ((size == 88) & (kind == 1)) | ((size == 92) & (kind == 2))
+    match size {
+        88 => kind == 1,
+        92 => kind == 2,
+        _ => false,
+    }
 }
 
 // ---- a form in the page's numbers

@@ -36,6 +36,9 @@ listsOk s =
     && inRange 0 2 (getD s 66 0)
     && inRange 0 2 (getD s 67 0)
 
+abbrev pub codedOk : List ℕ → Bool
+codedOk s = zerosOk s && listsOk s
+
 -- ---- 4: each byte of a member code is 'A' to 'Z' (65 to 90) or '0' to '9' (48 to 57)
 unfoldable pub codeByteOk : ℕ → Bool
 codeByteOk b = inRange 65 90 b || inRange 48 57 b
@@ -117,7 +120,7 @@ agreementOk ToNullify None made = true
 
 -- ---- the tests in their order: those on the bytes, those on the facts
 abbrev pub byteTests : List ℕ → List (ℕ × Bool)
-byteTests s = (2, headOk s) ∷ (3, zerosOk s && listsOk s) ∷ []
+byteTests s = (2, headOk s) ∷ (3, codedOk s) ∷ []
 
 abbrev pub formTests : List ℕ → List (ℕ × Bool)
 formTests s = (1, lengthOk s) ∷ byteTests s
@@ -131,6 +134,10 @@ factTests f =
     ∷ (8, limitsOk (f .trade) (f .buyer) (f .seller))
     ∷ (9, agreementOk (f .settlement .agreement) (f .settlement .agreed) (f .settlement .made))
     ∷ []
+
+-- the number of the first of the tests on length and head that the bytes fail, or 0
+unfoldable pub headFaultOf : List ℕ → ℕ
+headFaultOf s = firstFailed ((1, lengthOk s) ∷ (2, headOk s) ∷ [])
 
 -- the number of the first test that the bytes fail, or 0
 unfoldable pub formFaultOf : List ℕ → ℕ

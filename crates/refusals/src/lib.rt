@@ -4,7 +4,7 @@ ghost use mathlib.Core.Path.{_≡_};
 ghost use Prim.Native.Nat.{_≤_};
 ghost use lib.ListN.{length};
 ghost use Rattle.wire.specs.Tests.{pick, inRange};
-ghost use Rattle.refusals.specs.Tests.{headOk, zerosOk, listsOk, formFaultOf};
+ghost use Rattle.refusals.specs.Tests.{headOk, zerosOk, listsOk, codedOk, headFaultOf};
 
 // ---- 2 and 3: tests on the bytes of a case
 
@@ -76,16 +76,22 @@ fn lists_ok(s: &[u8]) -> bool
         & zero_to_two(s[67])
 }
 
-// The number of the first of the tests 1 to 3 that these bytes fail, or 0.
-pub fn form_fault(s: &[u8]) -> u8
-    ensures { λ r. ⌜ r ≡ formFaultOf (now (s .entry)) ⌝ }
+// The number of the first of the tests 1 and 2 that these bytes fail, or 0.
+pub fn head_fault(s: &[u8]) -> u8
+    ensures { λ r. ⌜ r ≡ headFaultOf (now (s .entry)) ⌝ }
 {
     if !forms::is_length(s.len()) {
         return 1;
     }
-    let head = head_ok(s);
-    let coded = zeros_ok(s) & lists_ok(s);
-    unless(head, unless(coded, 0, 3), 2)
+    unless(head_ok(s), 0, 2)
+}
+
+// Test 3: every zero byte and every coded one.
+pub fn coded_ok(s: &[u8]) -> bool
+    requires { ⌜ 88 ≤ length (now s) ⌝ }
+    ensures { λ r. ⌜ r ≡ codedOk (now (s .entry)) ⌝ }
+{
+    zeros_ok(s) & lists_ok(s)
 }
 
 // What the later tests say where this one passed, else its number: a row of tests, told from its end.

@@ -78,15 +78,12 @@ printed t w l m k e r h =
     let n : k ≤ length m = omega (arith, r .0) in
     rw e (r, (n, sym (length-take-le k m n)))
 
--- the header, then the lines in the part after it, then END in the part after them
-pub whole-text : (s l m y z : List ℕ) (n start bytes ruled last : ℕ)
-    → (start ≡ length header) × (m ≡ laid header l)
-    → (bytes ≡ length (row (lineOf s) n)) × (ruled ≡ ruledIn s n) × (y ≡ laid (row (lineOf s) n) (midOf start (length m - start) m))
-    → (last ≡ length (endLine ruled (n - ruled))) × (z ≡ laid (endLine ruled (n - ruled)) (midOf (start + bytes) (length (putMid start (length m - start) m y) - (start + bytes)) (putMid start (length m - start) m y)))
-    → Ran (ruledText s n) l (start + bytes + last) (putMid (start + bytes) (length (putMid start (length m - start) m y) - (start + bytes)) (putMid start (length m - start) m y) z)
-whole-text s l m y z n start bytes ruled last h c e =
+-- the header and the lines, then END in the part after them
+pub whole-text : (s l m z : List ℕ) (n end ruled last : ℕ)
+    → (end ≡ length (header ++ row (lineOf s) n)) × (ruled ≡ ruledIn s n) × (m ≡ laid (header ++ row (lineOf s) n) l)
+    → (last ≡ length (endLine ruled (n - ruled))) × (z ≡ laid (endLine ruled (n - ruled)) (midOf end (length m - end) m))
+    → Ran (ruledText s n) l (end + last) (putMid end (length m - end) m z)
+whole-text s l m z n end ruled last c e =
     let w = header ++ row (lineOf s) n in
     let v = endLine ruled (n - ruled) in
-    let at : start + bytes ≡ length w = omega (arith, length-append header (row (lineOf s) n)) in
-    let both = laid-part header (row (lineOf s) n) l m y start (h .1) (h .0) (c .2) in
-    rw (← c .1) (omega (arith, length-append w v), laid-part w v l _ z (start + bytes) both at (e .1))
+    rw (← c .1) (omega (arith, length-append w v), laid-part w v l m z end (c .2) (c .0) (e .1))

@@ -2,11 +2,14 @@
 // each case and END; any other has the one line that refuses it, with 10. Nothing is asked: the buffer holds the longest report, or, where
 // the report is taken piece by piece, the longest line.
 ghost use mathlib.Core.Path.{_≡_};
-ghost use Prim.Native.Nat.{_*_, _≤_};
+ghost use mathlib.Core.List.{_++_};
+ghost use Prim.Native.Nat.{_+_, _*_, _≤_};
 ghost use lib.ListN.{length, take};
 ghost use Rattle.wire.specs.Laid.{laid, row};
 ghost use Rattle.cases.specs.Cases.{readingOf};
+ghost use Rattle.cut.specs.Cut.{IsCase};
 ghost use Rattle.sheet.specs.Sheet.{casesIn, ruledOne, ruledIn};
+ghost use Rattle.lines.specs.Lines.{header};
 ghost use Rattle.report.specs.Report.{caseLine, lineOf, ruledText, textOf};
 ghost use Rattle.report.specs.Pieces.{ruledPiece, pieceOf};
 
@@ -18,10 +21,10 @@ struct Printed {
 
 // The line of one case, at the start of the buffer.
 fn put_case(case: &[u8], index: u32, out: &mut [u8]) -> Printed
-    requires { ⌜ 96 ≤ length (now out) ⌝ }
+    requires { ⌜ IsCase (now case) × (96 ≤ length (now out)) ⌝ }
     ensures { λ r. ⌜ (r .bytes ≡ length (caseLine index (readingOf (now (case .entry))))) × (r .ruled ≡ ruledOne (readingOf (now (case .entry)))) × (now (out .exit) ≡ laid (caseLine index (readingOf (now (case .entry)))) (now (out .entry))) ⌝ }
 {
-    let number = cases::check_case(case);
+    let number = cases::check_known(case);
     if number == 0 {
         return Printed {
             bytes: lines::put_ruled(out, figures::judge(case)),
@@ -34,15 +37,15 @@ fn put_case(case: &[u8], index: u32, out: &mut [u8]) -> Printed
     }
 }
 
-// The lines of the cases, one after the other.
-fn put_cases(sheet: &[u8], n: usize, out: &mut [u8]) -> Printed
-    requires { ⌜ (n ≡ casesIn (now sheet)) × (n ≤ 600) × (n * 96 ≤ length (now out)) ⌝ }
-    ensures { λ r. ⌜ (r .bytes ≡ length (row (lineOf (now (sheet .entry))) n)) × (r .ruled ≡ ruledIn (now (sheet .entry)) n) × (now (out .exit) ≡ laid (row (lineOf (now (sheet .entry))) n) (now (out .entry))) ⌝ }
-    ensures { λ r. ⌜ (r .bytes ≤ n * 96) × (r .ruled ≤ n) ⌝ }
+// The header and the lines of the cases, one after the other.
+fn put_lines(sheet: &[u8], n: usize, out: &mut [u8]) -> Printed
+    requires { ⌜ (n ≡ casesIn (now sheet)) × (n ≤ 600) × (65536 ≤ length (now out)) ⌝ }
+    ensures { λ r. ⌜ (r .bytes ≡ length (header ++ row (lineOf (now (sheet .entry))) n)) × (r .ruled ≡ ruledIn (now (sheet .entry)) n) × (now (out .exit) ≡ laid (header ++ row (lineOf (now (sheet .entry))) n) (now (out .entry))) ⌝ }
+    ensures { λ r. ⌜ (r .bytes ≤ 96 + n * 96) × (r .ruled ≤ n) ⌝ }
 {
     let mut i: usize = 0;
     let mut from: usize = 0;
-    let mut at: usize = 0;
+    let mut at = lines::put_header(out);
     let mut ruled: usize = 0;
     while i < n {
         let step = cut::said_length(sheet, from);
@@ -61,9 +64,8 @@ fn put_whole(sheet: &[u8], n: usize, out: &mut [u8]) -> usize
     requires { ⌜ (n ≡ casesIn (now sheet)) × (n ≤ 600) × (65536 ≤ length (now out)) ⌝ }
     ensures { λ r. ⌜ (r ≡ length (ruledText (now (sheet .entry)) n)) × (now (out .exit) ≡ laid (ruledText (now (sheet .entry)) n) (now (out .entry))) × (r ≤ 65536) ⌝ }
 {
-    let start = lines::put_header(out);
-    let p = put_cases(sheet, n, &mut out[start..]);
-    let end = start + p.bytes;
+    let p = put_lines(sheet, n, out);
+    let end = p.bytes;
     end + lines::put_end(&mut out[end..], p.ruled as u32, (n - p.ruled) as u32)
 }
 
@@ -83,9 +85,10 @@ pub fn print_sheet(sheet: &[u8], out: &mut [u8; 65536]) -> usize
 
 // How a case counts: 1 if it is ruled.
 fn ruled_one(case: &[u8]) -> usize
+    requires { ⌜ IsCase (now case) ⌝ }
     ensures { λ r. ⌜ r ≡ ruledOne (readingOf (now (case .entry))) ⌝ }
 {
-    if cases::check_case(case) == 0 { 1 } else { 0 }
+    if cases::check_known(case) == 0 { 1 } else { 0 }
 }
 
 // How many cases are ruled.

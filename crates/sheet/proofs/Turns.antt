@@ -1,8 +1,8 @@
 -- What `sheetOf` is, by the tests that lead there, and what a turn of the loop adds.
-use Prim.Native.Nat.{ℕ, _+_, _-_, _*_, _≤_, _<_, zero-le}
+use Prim.Native.Nat.{ℕ, _+_, _-_, _*_, _≤_, _<_}
 use mathlib.Core.Path.{_≡_, refl, _∙_}
 use mathlib.Core.Bool.{Bool, true, false}
-use mathlib.Core.List.{List}
+use mathlib.Core.List.{List, _++_}
 use native.Mathlib.Numerals.{add-one}
 use native.Mathlib.Nat.{suc-mul}
 use native.Mathlib.Omega.{arith}
@@ -13,7 +13,7 @@ use borrow.Rule.Slice.PartMut.{midOf, putMid}
 use Rattle.wire.specs.Laid.{laid, row}
 use Rattle.wire.specs.Tests.{pick}
 use Rattle.wire.proofs.Tests.{both-true}
-use Rattle.wire.proofs.Rows.{Ran, row-start, row-turn}
+use Rattle.wire.proofs.Rows.{Ran, ran-at, row-start, row-turn}
 use Rattle.cases.specs.Cases.{readingOf}
 use Rattle.cut.specs.Cut.{caseLength, whole}
 use Rattle.cut.proofs.Cut.{cases-few}
@@ -53,27 +53,28 @@ whole-length s h = leb-true (length s) 52800 (both-true (whole s) (leb (length s
 pub whole-few : (s : List ℕ) → wholeCases s ≡ true → casesIn s ≤ 600
 whole-few s h = omega (arith, cases-few s, whole-length s h)
 
--- ---- the loop over the cases: what holds at its head, with i cases done, where a case adds f k of its reading, of m bytes at most
-module _ (f : ℕ → Reading → List ℕ) (m : ℕ) where
+-- ---- the loop over the cases: what holds at its head, with i cases done, where a case adds f k of its reading, of m bytes at most, from the
+-- place `start` on
+module _ (start : ℕ) (f : ℕ → Reading → List ℕ) (m : ℕ) where
   abbrev pub added : List ℕ → ℕ → List ℕ
   added s k = f k (readingOf (caseAt s k))
 
   pub record Turn (s out₀ out : List ℕ) (i from at ruled : ℕ) : Type 0 where
     pub walked : At s i from
-    pub ran : Ran (row (added s) i) out₀ at out
+    pub ran : Ran (take start out₀ ++ row (added s) i) out₀ at out
     pub counted : ruled ≡ ruledIn s i
-    pub most : at ≤ i * m
+    pub most : at ≤ start + i * m
     pub few : ruled ≤ i
     pub same : length out ≡ length out₀
 
-  pub first : (s out : List ℕ) → Turn s out out 0 0 0 0
+  pub first : (s out : List ℕ) → start ≤ length out → Turn s out out 0 0 start 0
   unfolding ruledIn
-  first s out =
-      record { walked = at-start s; ran = row-start (added s) out; counted = refl; most = zero-le; few = omega arith; same = refl }
+  first s out h =
+      record { walked = at-start s; ran = row-start (take start out) (added s) out out start (ran-at start out h); counted = refl; most = omega arith; few = omega arith; same = refl }
 
 -- a turn: what case i adds goes into the part of the buffer from its place on
-module _ (f : ℕ → Reading → List ℕ) (m : ℕ) (short : (k : ℕ) (r : Reading) → length (f k r) ≤ m)
-    (s out₀ out ys : List ℕ) (i from at ruled step bytes one : ℕ) (t : Turn f m s out₀ out i from at ruled) (more : i < casesIn s)
+module _ (start : ℕ) (f : ℕ → Reading → List ℕ) (m : ℕ) (short : (k : ℕ) (r : Reading) → length (f k r) ≤ m)
+    (s out₀ out ys : List ℕ) (i from at ruled step bytes one : ℕ) (t : Turn start f m s out₀ out i from at ruled) (more : i < casesIn s)
     (length-is : step ≡ caseLength (drop from s)) where
   -- the part of the sheet that is lent for the turn is case i
   lent : take (from + step - from) (drop from s) ≡ caseAt s i
@@ -81,7 +82,7 @@ module _ (f : ℕ → Reading → List ℕ) (m : ℕ) (short : (k : ℕ) (r : Re
 
   pub next : (bytes ≡ length (f i (readingOf (take (from + step - from) (drop from s))))) × (one ≡ ruledOne (readingOf (take (from + step - from) (drop from s)))) × (ys ≡ laid (f i (readingOf (take (from + step - from) (drop from s)))) (midOf at (length out - at) out))
       → length (putMid at (length out - at) out ys) ≡ length out
-      → Turn f m s out₀ (putMid at (length out - at) out ys) (i + 1) (from + step) (at + bytes) (ruled + one)
+      → Turn start f m s out₀ (putMid at (length out - at) out ys) (i + 1) (from + step) (at + bytes) (ruled + one)
   unfolding ruledIn
   next e same =
       let r = readingOf (caseAt s i) in
@@ -90,7 +91,7 @@ module _ (f : ℕ → Reading → List ℕ) (m : ℕ) (short : (k : ℕ) (r : Re
       let y : ys ≡ laid (f i r) (midOf at (length out - at) out) = rw lent at (e .2) in
       record {
         walked = at-step s i from step (t .walked) more length-is;
-        ran = row-turn (added f m s) out₀ out ys i at bytes (t .ran) b y;
+        ran = row-turn (take start out₀) (added start f m s) out₀ out ys i at bytes (t .ran) b y;
         counted = rw add-one (cc);
         most = rw (add-one, suc-mul) (omega (arith, short i r));
         few = omega (arith, one-most i r);

@@ -6,6 +6,7 @@ ghost use Prim.Native.Nat.{_≤_};
 ghost use lib.ListN.{length};
 ghost use Rattle.wire.specs.Laid.{laid};
 ghost use Rattle.cases.specs.Cases.{readingOf};
+ghost use Rattle.cut.specs.Cut.{IsCase};
 ghost use Rattle.sheet.specs.Sheet.{refusalBytes, entryBytes, ruledOne, casesIn, wholeCases, sheetOf};
 use cut::Count;
 
@@ -38,10 +39,10 @@ fn put_refusal(out: &mut [u8], index: u32, number: u16)
 // The entry of one case, at the start of the buffer. What `answer::answer_case` does is done here by its two calls: the case is then lent to the
 // test and to the ruling as one, which spares the stack a second slice.
 fn rule_entry(case: &[u8], index: u32, out: &mut [u8]) -> Entry
-    requires { ⌜ 96 ≤ length (now out) ⌝ }
+    requires { ⌜ IsCase (now case) × (96 ≤ length (now out)) ⌝ }
     ensures { λ r. ⌜ (r .bytes ≡ length (entryBytes index (readingOf (now (case .entry))))) × (r .ruled ≡ ruledOne (readingOf (now (case .entry)))) × (now (out .exit) ≡ laid (entryBytes index (readingOf (now (case .entry)))) (now (out .entry))) ⌝ }
 {
-    let n = cases::check_case(case);
+    let n = cases::check_known(case);
     if n == 0 {
         let f = figures::judge(case);
         notices::put_answer(out, f, wire::read_u32(case, 48), wire::read_u32(case, 56));

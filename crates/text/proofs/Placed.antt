@@ -4,18 +4,13 @@ use mathlib.Core.Path.{_≡_, refl, sym, _∙_}
 use mathlib.Core.List.{List, [], _∷_, _++_, append-assoc}
 use native.Mathlib.Numerals.{add-one}
 use native.Mathlib.Omega.{arith}
-use lib.ListN.{length, set, take, length-set, length-append, take-append-drop}
+use lib.ListN.{length, set, take, length-set, length-append}
 use lib.Seq.{drop-drop, drop-at, length-take-le, take-append-seam, drop-append-seam, take-set-le, set-split}
 use borrow.Rule.Slice.PartMut.{midOf, putMid}
 use Rattle.wire.specs.Laid.{laid}
-use Rattle.wire.proofs.Laid.{laid-part}
+use Rattle.wire.proofs.Laid.{laid-before, laid-part}
 use Rattle.wire.proofs.Rows.{Ran}
 use Rattle.text.specs.Text.{laidAt}
-
--- what lies before a place, laid where it lies already
-before : (at : ℕ) (l : List ℕ) → at ≤ length l → l ≡ laid (take at l) l
-unfolding laid
-before at l h = rw (length-take-le at l h, take-append-drop)
 
 -- one byte more: w laid before a byte that is set just after it
 laid-more : (w l : List ℕ) (k v : ℕ) → k ≡ length w → length w < length l → laid w (set l k v) ≡ laid (w ++ (v ∷ [])) l
@@ -29,7 +24,7 @@ pub set-first : (at v : ℕ) (l : List ℕ) → at < length l → set l at v ≡
 unfolding laidAt
 set-first at v l h =
     let e = length-take-le at l (omega arith) in
-    before at (set l at v) (rw length-set (omega arith))
+    laid-before at (set l at v) (rw length-set (omega arith))
     ∙ rw (take-set-le at l at v (omega arith)) (laid-more (take at l) l at v (sym e) (omega (arith, e)))
 
 pub set-before : (at k v : ℕ) (w l : List ℕ) → k ≡ at + length w → k < length l → laidAt at w (set l k v) ≡ laidAt at (w ++ (v ∷ [])) l
@@ -42,7 +37,7 @@ set-before at k v w l e h =
 -- w written into the part from a place on, as the borrow checker lends that part and takes it back
 pub part-laid : (at : ℕ) (w xs ys : List ℕ) → at ≤ length xs → ys ≡ laid w (midOf at (length xs - at) xs) → putMid at (length xs - at) xs ys ≡ laidAt at w xs
 unfolding laidAt
-part-laid at w xs ys h e = laid-part (take at xs) w xs xs ys at (before at xs h) (sym (length-take-le at xs h)) e
+part-laid at w xs ys h e = laid-part (take at xs) w xs xs ys at (laid-before at xs h) (sym (length-take-le at xs h)) e
 
 -- at the start, and after what is laid already
 pub laid-first : (w l : List ℕ) → laidAt 0 w l ≡ laid w l
@@ -60,6 +55,12 @@ ran-first w l m k e f = (omega arith, f ∙ laid-first w l)
 
 pub ran-next : (w v l m m' : List ℕ) (k k' : ℕ) → Ran w l k m → k' ≡ k + length v → m' ≡ laidAt k v m → Ran (w ++ v) l k' m'
 ran-next w v l m m' k k' h e f = (omega (arith, length-append w v, h .0), laid-next w v l m m' k f (h .1) (h .0))
+
+-- and a run from there on, told from that place
+pub ran-after : (w v l m m' : List ℕ) (k k' : ℕ) → Ran w l k m → k ≤ length m → Ran (take k m ++ v) m k' m' → Ran (w ++ v) l k' m'
+unfolding laidAt
+ran-after w v l m m' k k' h fits r =
+    ran-next w v l m m' k k' h (omega (arith, r .0, length-append (take k m) v, length-take-le k m fits)) (r .1)
 
 -- the same from any place on: two appends are one append of both
 pub placed-next : (at k k' : ℕ) (w v l m m' : List ℕ) → at ≤ length l → k ≡ at + length w → m ≡ laidAt at w l → k' ≡ k + length v → m' ≡ laidAt k v m

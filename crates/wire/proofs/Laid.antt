@@ -4,8 +4,8 @@ use mathlib.Core.Path.{_≡_, refl, sym, ap, _∙_}
 use mathlib.Core.List.{List, [], _++_, append-assoc, append-nil}
 use native.Mathlib.Nat.{zero-add}
 use native.Mathlib.Omega.{arith}
-use lib.ListN.{length, take, drop, length-append, length-drop}
-use lib.Seq.{sets, sets-eq, take-length, take-all, drop-drop, drop-length, take-append-seam, drop-append-seam}
+use lib.ListN.{length, take, drop, length-append, length-drop, take-append-drop}
+use lib.Seq.{sets, sets-eq, length-take-le, take-length, take-all, drop-drop, drop-length, take-append-seam, drop-append-seam}
 use borrow.Rule.Slice.PartMut.{midOf, putMid}
 use Rattle.wire.specs.Laid.{laid}
 
@@ -13,6 +13,11 @@ use Rattle.wire.specs.Laid.{laid}
 pub laid-none : (l : List ℕ) → l ≡ laid [] l
 unfolding laid
 laid-none l = refl
+
+-- what lies before a place, laid where it lies already
+pub laid-before : (at : ℕ) (l : List ℕ) → at ≤ length l → l ≡ laid (take at l) l
+unfolding laid
+laid-before at l h = rw (length-take-le at l h, take-append-drop)
 
 -- all of an array copied over the start of the buffer, as `bytes::copy` states it
 pub copied : (n : ℕ) (a w l : List ℕ) → n ≡ length a → a ≡ w → take n a ++ drop n l ≡ laid w l

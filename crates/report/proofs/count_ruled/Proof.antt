@@ -5,7 +5,7 @@ use native.Mathlib.Numerals.{add-one}
 use native.Mathlib.Omega.{arith}
 use denote.Ref.{now}
 use Rattle.cases.specs.Cases.{readingOf}
-use Rattle.cut.proofs.Walk.{At, at-start, at-lent, at-step}
+use Rattle.cut.proofs.Walk.{At, at-start, at-lent, at-is, at-step}
 use Rattle.sheet.specs.Sheet.{caseAt, casesIn, ruledOne, ruledIn}
 use Rattle.sheet.proofs.Turns.{few-more}
 use Rattle.sheet.proofs.Counts.{ruled-within}
@@ -38,7 +38,10 @@ part-ruled-one-end : tie.Need-part-ruled-one-end Inv-loop μ-loop
 part-ruled-one-end c = omega arith
 
 ruled-one-requires : tie.Need-ruled-one-requires Inv-loop μ-loop
-ruled-one-requires c κs = tt
+ruled-one-requires c κs =
+    let g = c .before in
+    let l = g .before .before in
+    at-is _ _ _ _ (l .loop .inv .0) (omega (arith, l .before .before .pre)) (g .length-at .ensures .0)
 
 add-ruled : tie.Need-add-ruled Inv-loop μ-loop
 add-ruled c =

@@ -4,6 +4,7 @@ use native.Mathlib.Omega.{arith}
 use denote.Ref.{now}
 use borrow.Author.Needs.{needs}
 use Rattle.wire.proofs.Laid.{laid-none}
+use Rattle.cut.proofs.Walk.{at-is}
 use Rattle.lines.proofs.Joined.{as-line}
 use Rattle.report.proofs.Pieces.{at-place, at-line, at-end, at-none}
 use Rattle.report.proofs.put_piece.Statement.{statement}
@@ -46,7 +47,11 @@ cast-put-case : tie.Need-cast-put-case
 cast-put-case c = search needs
 
 put-case-requires : tie.Need-put-case-requires
-put-case-requires c κs = search needs
+put-case-requires c κs =
+    let g = c .before .before in
+    let f = g .before in
+    let t = f .before .before .before .before .before in
+    (at-is _ _ _ _ (at-place _ _ _ _ (t .pre .0) (f .before .if2 .taken) (f .start-of .ensures)) (omega (arith, t .pre .0)) (g .length-at .ensures .0), omega arith)
 
 same-length-2 : tie.Need-same-length-2
 same-length-2 c = search needs

@@ -7,21 +7,21 @@ use borrow.Author.Needs.{needs}
 use Rattle.sheet.proofs.rule_entry.Statement.{statement}
 use Rattle.sheet.proofs.rule_entry.Tie as tie
 
-check-case-requires : tie.Need-check-case-requires
-check-case-requires c κs = search needs
+check-known-requires : tie.Need-check-known-requires
+check-known-requires c κs = c .before .before .pre .0
 
 judge-requires : tie.Need-judge-requires
-judge-requires c κs = passed-whole _ (sym (c .before .check-case .ensures) ∙ c .if1 .taken)
+judge-requires c κs = passed-whole _ (sym (c .before .check-known .ensures) ∙ c .if1 .taken)
 
 read-u32-requires : tie.Need-read-u32-requires
 read-u32-requires c κs =
     let t = c .before .before in
-    omega (arith, passed-whole _ (sym (t .before .check-case .ensures) ∙ t .if1 .taken))
+    omega (arith, passed-whole _ (sym (t .before .check-known .ensures) ∙ t .if1 .taken))
 
 read-u32-requires-2 : tie.Need-read-u32-requires-2
 read-u32-requires-2 c κs =
     let t = c .before .before .before in
-    omega (arith, passed-whole _ (sym (t .before .check-case .ensures) ∙ t .if1 .taken))
+    omega (arith, passed-whole _ (sym (t .before .check-known .ensures) ∙ t .if1 .taken))
 
 put-answer-requires : tie.Need-put-answer-requires
 put-answer-requires c κs = search needs
@@ -37,7 +37,7 @@ returns c =
     let judge = buyer .before .before in
     let t = judge .before in
     let known = t .before .before .before in
-    enter-ruled _ _ _ _ _ (t .before .check-case .ensures) (t .if1 .taken)
+    enter-ruled _ _ _ _ _ (t .before .check-known .ensures) (t .if1 .taken)
     (answered _ _ _ _ _ _ (λ i. known .shared-slice-known .given i .fits) (judge .judge .ensures) (buyer .read-u32 .ensures) (seller .read-u322 .ensures) (put .put-answer .ensures))
 
 cast-put-refusal : tie.Need-cast-put-refusal
@@ -53,13 +53,13 @@ returns-2 : tie.Need-returns-2
 returns-2 c =
     let put = c .before .before in
     let other = put .before .before in
-    enter-refused _ _ _ _ _ (other .before .check-case .ensures) (other .if1 .left) (put .put-refusal .ensures)
+    enter-refused _ _ _ _ _ (other .before .check-known .ensures) (other .if1 .left) (put .put-refusal .ensures)
 
 pub rule-entry-spec : {M : Type 1} → statement M
 rule-entry-spec =
     tie.close
     (tie.spec
-    check-case-requires
+    check-known-requires
     judge-requires
     read-u32-requires
     read-u32-requires-2

@@ -1,10 +1,10 @@
-use Prim.Native.Nat.{_-_}
+use Prim.Native.Nat.{_-_, zero-le}
 use mathlib.Core.Path.{_≡_, sym, ap, _∙_}
 use mathlib.Core.List.{[]}
 use native.Mathlib.Omega.{arith}
 use lib.ListN.{length, length-take, length-drop}
 use denote.Ref.{now}
-use Rattle.cut.proofs.Walk.{at-more}
+use Rattle.cut.proofs.Walk.{at-more, at-is}
 use borrow.Author.Needs.{needs}
 use Rattle.wire.proofs.Tests.{fails, holds}
 use Rattle.wire.proofs.Laid.{laid-none, ends}
@@ -17,7 +17,7 @@ use Rattle.sheet.proofs.rule_sheet.Statement.{statement}
 use Rattle.sheet.proofs.rule_sheet.Tie as tie
 
 abbrev Inv-loop : tie.InvT-loop
-Inv-loop sheet out₀ n i₀ from₀ at₀ ruled₀ out i from at ruled = Turn entryBytes 96 sheet out₀ out i from at ruled
+Inv-loop sheet out₀ n i₀ from₀ at₀ ruled₀ out i from at ruled = Turn 0 entryBytes 96 sheet out₀ out i from at ruled
 
 abbrev μ-loop : tie.MeasureT-loop
 μ-loop sheet out₀ n i₀ from₀ at₀ ruled₀ out i from at ruled = n - i
@@ -50,7 +50,7 @@ returns-2 c =
     ends _ _ _ (sheet-room _ _ (sym (k .0) ∙ holds _ (w .if1 .left)) (omega (arith, k .1)) ∙ ap (λ (a : SheetAnswer). (a, [])) (sym (c .refuse2 .ensures))) (laid-none _)
 
 loop-holds : tie.Need-loop-holds Inv-loop μ-loop
-loop-holds c = first entryBytes 96 _ _
+loop-holds c = first 0 entryBytes 96 _ _ zero-le
 
 said-length-requires : tie.Need-said-length-requires Inv-loop μ-loop
 said-length-requires c κs = let l = c .before in (omega arith, at-more _ _ _ (l .loop .inv .walked) (omega arith))
@@ -83,7 +83,10 @@ part-rule-entry-end-2 : tie.Need-part-rule-entry-end-2 Inv-loop μ-loop
 part-rule-entry-end-2 c = omega arith
 
 rule-entry-requires : tie.Need-rule-entry-requires Inv-loop μ-loop
-rule-entry-requires c κs = simp (length-take, length-drop) (omega arith)
+rule-entry-requires c κs =
+    let g = c .before .before in
+    let l = g .before .before in
+    (at-is _ _ _ _ (l .loop .inv .walked) (omega arith) (g .said-length .ensures .0), simp (length-take, length-drop) (omega arith))
 
 add-at : tie.Need-add-at Inv-loop μ-loop
 add-at c = omega (arith, bytes-most _ _ _ (c .before .before .before .rule-entry .ensures .0))
@@ -102,7 +105,7 @@ loop-again c =
     let e = c .before .before .before .before in
     let g = e .before .before .before in
     let l = g .before .before in
-    next entryBytes 96 entry-most _ _ _ _ _ _ _ _ _ _ _ (l .loop .inv) (omega arith) (g .said-length .ensures .0) (e .rule-entry .ensures) (c .before .before .before .out .given .1)
+    next 0 entryBytes 96 entry-most _ _ _ _ _ _ _ _ _ _ _ (l .loop .inv) (omega arith) (g .said-length .ensures .0) (e .rule-entry .ensures) (c .before .before .before .out .given .1)
 
 sub-t13 : tie.Need-sub-t13 Inv-loop μ-loop
 sub-t13 c = omega arith
