@@ -31,12 +31,17 @@ use Rattle.ruling.specs.Origins.{originOf, Exactly}
 use Rattle.ruling.specs.Ruling.{rulingOf}
 use Rattle.answer.specs.Answer.{caseOf}
 use Rattle.answer.proofs as answer
-use Rattle.sheet.specs.Sheet.{caseAt, entryOf}
+use Rattle.sheet.specs.Sheet.{whole, caseAt, casesIn, entryOf, sheetOf}
+use Rattle.sheet.specs.declared.SheetAnswer.{SheetAnswer}
+use Rattle.sheet.proofs as sheet
+use Rattle.desk.specs.declared.DeskSheet.{DeskSheet}
+use Rattle.desk.specs.Desk.{deskSheet}
 use Rattle.desk.proofs as desk
-use Rattle.kinds.specs.Before.{theoryBefore, caseBefore, entryBefore}
+use Rattle.kinds.specs.Before.{theoryBefore, caseBefore, entryBefore, sheetBefore}
 use Rattle.kinds.specs.Recast.{asKindOne, withoutQuotes}
 use Rattle.kinds.proofs.Rulings as rulings
 use Rattle.kinds.proofs.Before as before
+use Rattle.kinds.proofs.Sheets as sheets
 use Rattle.kinds.proofs.Recast as recasts
 use Rattle.kinds.proofs.Tested as tested
 use Rattle.alike.specs.Tested.{testedIn}
@@ -135,6 +140,23 @@ module _ (κs : Lfts 2) (s s' out out' : RefT (List ℕ)) (r : ℕ) (short : len
 -- And in a sheet that is ruled: the entry of a case of 88 bytes is the one that it had.
 pub entry-as-before : (s : List ℕ) (k : ℕ) → length (caseAt s k) ≡ 88 → entryOf s k ≡ entryBefore k (caseAt s k)
 entry-as-before s k long = before.entry-before (caseAt s k) long k
+
+-- So a whole sheet whose cases are all of kind 1 is answered as before, refused whole or ruled, whatever the room.
+abbrev pub AllKindOne : List ℕ → Type 0
+AllKindOne s = (whole s ≡ true) × ((k : ℕ) → k < casesIn s → length (caseAt s k) ≡ 88)
+
+pub sheet-as-before : (s : List ℕ) (room : ℕ) → AllKindOne s → sheetOf s room ≡ sheetBefore s room
+sheet-as-before s room h = sheets.sheet-before s (h .0) (h .1) room
+
+-- And so every call of `rule_sheet` and `desk_rule_sheet`.
+module _ (κs : Lfts 2) (s s' out out' : RefT (List ℕ)) (one : AllKindOne (now s)) where
+  pub rule-sheet-as-before : (r : SheetAnswer) → sheet.rule_sheet.Reads.Post κs (s, (out, tt)) r (s', (out', tt))
+      → let a = sheetBefore (now s) (length (now out)) in Said (a .0) (a .1) r (now out) (now out')
+  rule-sheet-as-before r p = rw (sheet-as-before (now s) (length (now out)) one) at p
+
+  pub desk-rule-sheet-as-before : (r : DeskSheet) → desk.desk_rule_sheet.Reads.Post κs (s, (out, tt)) r (s', (out', tt))
+      → let a = sheetBefore (now s) (length (now out)) in Said (deskSheet (a .0)) (a .1) r (now out) (now out')
+  desk-rule-sheet-as-before r p = rw (sheet-as-before (now s) (length (now out)) one) at p
 
 -- ---- kind 2: differs from the same facts of kind 1 only where the quotes are wide
 

@@ -58,7 +58,7 @@ module _ (s : List ℕ) (long : length s ≡ 88) where
   unfolding pricesOk
   prices-same = ap (λ form. pricesBefore (factsOf s) && differentialOk (differentialOf form)) one ∙ and-true (pricesBefore (factsOf s))
 
-  number-same : refusalOf s ≡ numberBefore s
+  pub number-same : refusalOf s ≡ numberBefore s
   unfolding refusalOf
   number-same = rw (length-same, head-same, prices-same)
 

@@ -2,3 +2,4 @@ pub mod Rulings
 pub mod Before
 pub mod Recast
 pub mod Tested
+pub mod Sheets

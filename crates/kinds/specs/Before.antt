@@ -1,11 +1,12 @@
 -- The desk before request L4 (RULE R12.8), which knew one kind of case: each definition that the request changed, as it was. None looks at the
 -- form of a record.
-use Prim.Native.Nat.{ℕ}
+use Prim.Native.Nat.{ℕ, zero, suc, _+_, _-_, _*_, _/_, _%_}
 use mathlib.Core.Bool.{Bool, _&&_}
 use mathlib.Core.List.{List, [], _∷_}
-use lib.ListN.{length}
+use lib.ListN.{length, take, drop}
 use lib.Dec.{leb, eqb}
 use Rattle.wire.specs.Numbers.{numberAt}
+use Rattle.wire.specs.Laid.{row}
 use Rattle.wire.specs.Tests.{pick, firstFailed}
 use Rattle.record.specs.Record.{factsOf}
 use Rattle.refusals.specs.Tests.{zerosOk, listsOk, codesOk, millsOk, priceOk, quotesPriced, countsOk, timesOk, limitsOk, agreementOk}
@@ -14,8 +15,8 @@ use Rattle.way.specs.Way.{wayOf}
 use Rattle.theory.specs.Theory.{quoteFor, sourceOf}
 use Rattle.ruling.specs.Ruling.{noRelief, ruledFrom}
 use Rattle.notices.specs.Records.{answerBytes}
-use Rattle.sheet.specs.Sheet.{refusalBytes}
-use Rattle.kinds.specs.Words.{Side, Market, Facts, Way, Obvious, Opening, Catastrophic, Open, By, Closed, Theory, Missing, Ruling}
+use Rattle.sheet.specs.Sheet.{refusalBytes, refusedWhole}
+use Rattle.kinds.specs.Words.{Side, Market, Facts, Way, Obvious, Opening, Catastrophic, Open, By, Closed, Theory, Missing, Ruling, SheetAnswer}
 
 -- ---- the tests: 1, 88 bytes; 2, length 88 and kind 1; 5, without a differential
 abbrev pub lengthBefore : List ℕ → Bool
@@ -81,3 +82,31 @@ numberBefore s = firstFailed ((1, lengthBefore s) ∷ testsBefore s (factsOf s))
 
 unfoldable pub entryBefore : ℕ → List ℕ → List ℕ
 entryBefore index s = pick (eqb (numberBefore s) 0) (answerBefore (factsOf s)) (refusalBytes index (numberBefore s))
+
+-- ---- a sheet: case k begins at 88 · k, and it is whole where its length is a number of them
+abbrev pub caseAtBefore : List ℕ → ℕ → List ℕ
+caseAtBefore s k = take 88 (drop (k * 88) s)
+
+abbrev pub casesBefore : List ℕ → ℕ
+casesBefore s = length s / 88
+
+abbrev pub rowBefore : List ℕ → ℕ → List ℕ
+rowBefore s n = row (λ k. entryBefore k (caseAtBefore s k)) n
+
+unfoldable pub ruledInBefore : List ℕ → ℕ → ℕ
+ruledInBefore s zero = 0
+ruledInBefore s (suc k) = ruledInBefore s k + pick (eqb (numberBefore (caseAtBefore s k)) 0) 1 0
+
+-- 10, then 11, then each case
+abbrev pub wholeBefore : List ℕ → Bool
+wholeBefore s = eqb (length s % 88) 0 && leb (length s) 52800
+
+abbrev pub sheetNumberBefore : List ℕ → ℕ → ℕ
+sheetNumberBefore s room = firstFailed ((10, wholeBefore s) ∷ (11, leb (casesBefore s * 96) room) ∷ [])
+
+abbrev pub ruledBefore : List ℕ → ℕ → SheetAnswer × List ℕ
+ruledBefore s n =
+    (record { refusal = 0; written = length (rowBefore s n); ruled = ruledInBefore s n; refused = n - ruledInBefore s n }, rowBefore s n)
+
+unfoldable pub sheetBefore : List ℕ → ℕ → SheetAnswer × List ℕ
+sheetBefore s room = pick (eqb (sheetNumberBefore s room) 0) (ruledBefore s (casesBefore s)) (refusedWhole (sheetNumberBefore s room))

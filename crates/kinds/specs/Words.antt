@@ -20,3 +20,4 @@ pub use Rattle.theory.specs.declared.Origin.the-variants.{Quoted, Official}
 pub use Rattle.agreement.specs.declared.Heeded.{Heeded}
 pub use Rattle.agreement.specs.declared.Heeded.the-variants.{Ignored, Repriced, Undone}
 pub use Rattle.ruling.specs.declared.Ruling.{Ruling}
+pub use Rattle.sheet.specs.declared.SheetAnswer.{SheetAnswer}
