@@ -187,7 +187,7 @@ extern "C" {
 #define DESK_REFUSAL_LENGTH_OR_KIND 2u     /* it begins with another pair of length and kind than that of its bytes */
 #define DESK_REFUSAL_ZERO_OR_CODED_BYTE 3u /* a zero byte isn't zero, or a coded byte is not in its list */
 #define DESK_REFUSAL_MEMBER_CODE 4u        /* a byte of a member code is not allowed */
-#define DESK_REFUSAL_PRICE 5u              /* a price is above DESK_HIGHEST_PRICE and no permitted none, or a differential 0 */
+#define DESK_REFUSAL_PRICE 5u              /* a price is above DESK_HIGHEST_PRICE and no permitted none, or a differential isn't 1 to that */
 #define DESK_REFUSAL_CONTRACTS_OR_SIZE 6u  /* contracts or a size break their rule */
 #define DESK_REFUSAL_TIME 7u               /* a time or count of seconds is out of range, or on day 0 filed before executed */
 #define DESK_REFUSAL_LIMIT 8u              /* the execution price is above the buyer's limit or below the seller's */

@@ -6,13 +6,15 @@ use mathlib.Core.List.{List, [], _∷_}
 use lib.ListN.{length}
 use lib.Dec.{leb, eqb}
 use borrow.Author.Tests.{le-leb, lt-leb, leb-true, eq-eqb, ne-eqb, eqb-true, eqb-false}
+use Rattle.wire.specs.Numbers.{elements}
 use Rattle.wire.specs.Tests.{pick}
 use Rattle.wire.proofs.Tests.{both-true, none-fails, first-append}
 use Rattle.forms.specs.Forms.{formLength}
 use Rattle.forms.specs.Heads.{known, sizeIn, kindIn, IsCase}
 use Rattle.forms.proofs.Heads.{has-88, case-length}
-use Rattle.record.specs.Record.{factsOf, recordBytes}
-use Rattle.refusals.specs.Tests.{lengthOk, headOk, zerosOk, listsOk, codedOk, formTests, factTests, headFaultOf, formFaultOf, faultOf}
+use Rattle.record.specs.Record.{partyAt, factsOf, recordBytes}
+use Rattle.refusals.specs.Tests.{lengthOk, headOk, zerosOk, listsOk, codeOk, codesOk, codedOk, headTests, formTests, factTests, headFaultOf, formFaultOf, laterFaultOf, faultOf}
+use Rattle.faults.proofs.Row.{codes-stop, codes-pass}
 use Rattle.cases.specs.Words.{Facts}
 use Rattle.cases.specs.Cases.{refusalOf, Formed, accepted, refused, readingOf, writeRefusalOf, writingOf}
 
@@ -89,7 +91,7 @@ module _ (s : List ℕ) where
   -- ---- length and head, asked before the rest: 1 and 2
   head-first : formFaultOf s ≡ pick (eqb (headFaultOf s) 0) (pick (codedOk s) 0 3) (headFaultOf s)
   unfolding formFaultOf headFaultOf
-  head-first = first-append ((1, lengthOk s) ∷ (2, headOk s) ∷ []) ((3, codedOk s) ∷ []) (refl, (refl, tt))
+  head-first = first-append (headTests s) ((3, codedOk s) ∷ []) (refl, (refl, tt))
 
   pub head-decides : (n : ℕ) → n ≡ headFaultOf s → (n ≡ 0 → ⊥) → n ≡ refusalOf s
   head-decides n e h = form-decides n (e ∙ sym (head-first ∙ simp (ne-eqb (headFaultOf s) 0 (λ z. h (e ∙ z))))) h
@@ -107,14 +109,27 @@ module _ (s : List ℕ) where
     pub case-whole : 88 ≤ length s
     case-whole = has-88 (length s) (case-passes .0)
 
-    -- so test 3 decides, or the facts do
+    -- so test 3 decides
     pub coded-decides : codedOk s ≡ false → 3 ≡ refusalOf s
     unfolding formFaultOf
     coded-decides e = form-decides 3 (simp (case-passes .0, case-passes .1, e)) (eqb-false 3 0 refl)
 
-    pub case-decides : (n : ℕ) (f : Facts) → codedOk s ≡ true → f ≡ factsOf s → n ≡ faultOf f → n ≡ refusalOf s
-    unfolding formFaultOf
-    case-decides n f e says told = facts-decide n f (simp (case-passes .0, case-passes .1, e)) says told
+    -- or test 4, asked of the codes where they stand, or the facts from test 5 on
+    module _ (coded : codedOk s ≡ true) where
+      case-formed : formFaultOf s ≡ 0
+      unfolding formFaultOf
+      case-formed = simp (case-passes .0, case-passes .1, coded)
+
+      codes-told : (codeOk (elements 4 s 48) && codeOk (elements 4 s 56)) ≡ codesOk (factsOf s .buyer) (factsOf s .seller)
+      unfolding codesOk factsOf partyAt
+      codes-told = refl
+
+      pub codes-decide : (codeOk (elements 4 s 48) && codeOk (elements 4 s 56)) ≡ false → 4 ≡ refusalOf s
+      codes-decide e = facts-decide 4 (factsOf s) case-formed refl (codes-stop (factsOf s) (sym codes-told ∙ e))
+
+      pub later-decide : (n : ℕ) (f : Facts) → (codeOk (elements 4 s 48) && codeOk (elements 4 s 56)) ≡ true → f ≡ factsOf s → n ≡ laterFaultOf f → n ≡ refusalOf s
+      later-decide n f e says told =
+          facts-decide n (factsOf s) case-formed refl (codes-pass (factsOf s) n (sym codes-told ∙ e) (told ∙ ap laterFaultOf says))
 
   pub accepted-form : readingOf s .refusal ≡ 0 → formFaultOf s ≡ 0
   accepted-form e = passed-form (accepts e)

@@ -94,7 +94,10 @@ pub fn check_known(s: &[u8]) -> u8
     if !refusals::coded_ok(s) {
         return 3;
     }
-    faults::fault(record::facts_of(s))
+    if !faults::codes_at(s) {
+        return 4;
+    }
+    faults::later_fault(record::facts_of(s))
 }
 
 // Tests a case: 1, then 2 to 9. Answers the number of the first test that it fails, or 0.

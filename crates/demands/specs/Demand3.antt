@@ -1,7 +1,7 @@
 -- Demand 3 (RULE R12.5, R12.6, R13.0.3): among accepted cases, nothing of a member's code or limit reaches the other party, but for the code
 -- where the trade is repriced or undone, and on which side of the limit the tested price (`testedIn`) lies. On rulings, on the bytes of a
 -- case's answer, on sheets, and of every two calls. (That a case is accepted tells that the execution is within both limits: test 8.)
-use Prim.Native.Nat.{ℕ, _≤_, _<_}
+use Prim.Native.Nat.{ℕ, _+_, _≤_, _<_}
 use mathlib.Core.Path.{_≡_, refl, sym, ap, subst, _∙_}
 use mathlib.Core.Logic.{⊎-elim}
 use mathlib.Core.List.{List, [], _∷_, _++_}
@@ -114,33 +114,47 @@ blind-sheets who s t j a room =
       },
     )
 
--- The premise holds of two sheets that differ: a case of kind 2 and the good record behind it, at 92, and the same with another code of its buyer.
+-- The premise holds of sheets that differ: a case of kind 2 and the good record behind it, at 92, and the same with another code of the buyer of
+-- either.
 abbrev mixed : List ℕ
 mixed = goodTwo ++ goodCase
 
-abbrev otherBuyer : List ℕ
-otherBuyer = stored mixed 140 (67 ∷ 68 ∷ 51 ∷ 52 ∷ [])
+abbrev otherBuyer : ℕ → List ℕ
+otherBuyer at = stored mixed at (67 ∷ 68 ∷ 51 ∷ 52 ∷ [])
 
-pub alike-sheets : AlikeButOne Buy mixed otherBuyer 1
+kept : (at i : ℕ) → ((k : ℕ) → at ≤ k → k < at + 8 → i ≡ k → ⊥) → getD (set (set (set (set mixed at 67) (at + 1) 68) (at + 2) 51) (at + 3) 52) i 0 ≡ getD mixed i 0
+kept at i d =
+    getD-set-other (set (set (set mixed at 67) (at + 1) 68) (at + 2) 51) (at + 3) i 52 0 (d (at + 3) (omega arith) (omega arith))
+    ∙ getD-set-other (set (set mixed at 67) (at + 1) 68) (at + 2) i 51 0 (d (at + 2) (omega arith) (omega arith))
+    ∙ getD-set-other (set mixed at 67) (at + 1) i 68 0 (d (at + 1) (omega arith) (omega arith))
+    ∙ getD-set-other mixed at i 67 0 (d at (omega arith) (omega arith))
+
+pub alike-sheets : AlikeButOne Buy mixed (otherBuyer 140) 1
 unfolding pairs known begins caseLength cutBy cut caseAt startOf readingOf refusalOf headOk zerosOk listsOk codesOk codeOk codeByteOk pricesOk quotesPriced countsOk timesOk limitsOk inRange numberAt factsOf tradeOf marketOf requestOf partyAt settlementOf priceOf momentOf sideOf kindOf dayOf agreementOf flagOf testedIn bandOf inError movedBy wayOf obviousOpen openingOpen catastrophicOpen theoryOf heededOf inTime testedAt isLength formOf apart
 alike-sheets =
     record {
       long = refl;
       within = lit< tt;
-      same = λ i o. sym (kept i (λ k h h' e. ⊎-elim (λ l. omega arith) (λ l. omega arith) o));
+      same = λ i o. sym (kept 140 i (λ k h h' e. ⊎-elim (λ l. omega arith) (λ l. omega arith) o));
       first = refl;
       second = refl;
       untold = tt;
-    } where
-      kept : (i : ℕ) → ((k : ℕ) → 140 ≤ k → k < 148 → i ≡ k → ⊥) → getD otherBuyer i 0 ≡ getD mixed i 0
-      kept i d =
-          getD-set-other (set (set (set mixed 140 67) 141 68) 142 51) 143 i 52 0 (d 143 (lit≤ tt) (lit< tt))
-          ∙ getD-set-other (set (set mixed 140 67) 141 68) 142 i 51 0 (d 142 (lit≤ tt) (lit< tt))
-          ∙ getD-set-other (set mixed 140 67) 141 i 68 0 (d 141 (lit≤ tt) (lit< tt))
-          ∙ getD-set-other mixed 140 i 67 0 (d 140 (lit≤ tt) (lit< tt))
+    }
 
-pub sheets-differ : mixed ≡ otherBuyer → ⊥
-sheets-differ e = eqb-false 65 67 refl (ap (λ (l : List ℕ). getD l 140 0) e)
+pub alike-sheets-two : AlikeButOne Buy mixed (otherBuyer 48) 0
+unfolding pairs known begins caseLength cutBy cut caseAt startOf readingOf refusalOf headOk zerosOk listsOk codesOk codeOk codeByteOk pricesOk quotesPriced countsOk timesOk limitsOk inRange numberAt factsOf tradeOf marketOf requestOf partyAt settlementOf priceOf momentOf sideOf kindOf dayOf agreementOf flagOf testedIn bandOf inError movedBy wayOf obviousOpen openingOpen catastrophicOpen theoryOf heededOf inTime testedAt isLength formOf apart
+alike-sheets-two =
+    record {
+      long = refl;
+      within = lit< tt;
+      same = λ i o. sym (kept 48 i (λ k h h' e. ⊎-elim (λ l. omega arith) (λ l. omega arith) o));
+      first = refl;
+      second = refl;
+      untold = tt;
+    }
+
+pub sheets-differ : (mixed ≡ otherBuyer 140 → ⊥) × (mixed ≡ otherBuyer 48 → ⊥)
+sheets-differ = (λ e. eqb-false 65 67 refl (ap (λ (l : List ℕ). getD l 140 0) e), λ e. eqb-false 65 67 refl (ap (λ (l : List ℕ). getD l 48 0) e))
 
 -- ---- so every call: what is said above of the definitions, of the promises as Rattle reads them from the contracts
 

@@ -177,6 +177,12 @@ prices-ok-exact = prices.Exact.prices-ok-exact
 pub counts-ok-exact : Exact (prices.counts_ok.Reads.Post tt)
 counts-ok-exact = prices.Exact.counts-ok-exact
 
+pub codes-at-exact : (κs : Lfts 1) → Exact (faults.codes_at.Reads.Post κs)
+codes-at-exact = faults.Exact.codes-at-exact
+
+pub later-fault-exact : Exact (faults.later_fault.Reads.Post tt)
+later-fault-exact = faults.Exact.later-fault-exact
+
 pub fault-exact : Exact (faults.fault.Reads.Post tt)
 fault-exact = faults.Exact.fault-exact
 

@@ -125,24 +125,32 @@ byteTests s = (2, headOk s) ∷ (3, codedOk s) ∷ []
 abbrev pub formTests : List ℕ → List (ℕ × Bool)
 formTests s = (1, lengthOk s) ∷ byteTests s
 
-abbrev pub factTests : Facts → List (ℕ × Bool)
-factTests f =
-    (4, codesOk (f .buyer) (f .seller))
-    ∷ (5, pricesOk f)
+abbrev pub headTests : List ℕ → List (ℕ × Bool)
+headTests s = (1, lengthOk s) ∷ (2, headOk s) ∷ []
+
+abbrev pub laterTests : Facts → List (ℕ × Bool)
+laterTests f =
+    (5, pricesOk f)
     ∷ (6, countsOk (f .trade) (f .market))
     ∷ (7, timesOk (f .trade) (f .request) (f .settlement))
     ∷ (8, limitsOk (f .trade) (f .buyer) (f .seller))
     ∷ (9, agreementOk (f .settlement .agreement) (f .settlement .agreed) (f .settlement .made))
     ∷ []
 
+abbrev pub factTests : Facts → List (ℕ × Bool)
+factTests f = (4, codesOk (f .buyer) (f .seller)) ∷ laterTests f
+
 -- the number of the first of the tests on length and head that the bytes fail, or 0
 unfoldable pub headFaultOf : List ℕ → ℕ
-headFaultOf s = firstFailed ((1, lengthOk s) ∷ (2, headOk s) ∷ [])
+headFaultOf s = firstFailed (headTests s)
 
 -- the number of the first test that the bytes fail, or 0
 unfoldable pub formFaultOf : List ℕ → ℕ
 formFaultOf s = firstFailed (formTests s)
 
--- the number of the first test that the facts fail, or 0
+-- the number of the first test that the facts fail, or 0; and of the first from 5 on
+unfoldable pub laterFaultOf : Facts → ℕ
+laterFaultOf f = firstFailed (laterTests f)
+
 unfoldable pub faultOf : Facts → ℕ
 faultOf f = firstFailed (factTests f)

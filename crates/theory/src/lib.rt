@@ -74,10 +74,10 @@ pub fn find_theory(form: Form, side: Side, market: Market) -> Theory
     ensures { λ r. ⌜ (r ≡ theoryOf form side market) × (theoryNumber r ≡ priceNumber (orElse (trustedPrice form side market) (market .official))) × (theoryOrigin r ≡ originAmong (trustedPrice form side market) (market .official)) ⌝ }
 {
     let official = market.official;
+    let quote = quote_for(side, market);
     if width::is_wide(forms::differential_of(form), market) {
         return take_official(official);
     }
-    let quote = quote_for(side, market);
     take_source(quote, official)
 }
 

@@ -24,6 +24,9 @@ module _ (form : Form) (side : Side) (m : Market) (r : Theory) (e : r ≡ theory
       let n = spelled theoryNumber (theory-number form side m) e in
       (n .0, n .1, spelled theoryOrigin (theory-origin form side m) e .1)
 
+quote-for-requires : tie.Need-quote-for-requires
+quote-for-requires c κs = search needs
+
 differential-of-requires : tie.Need-differential-of-requires
 differential-of-requires c κs = search needs
 
@@ -36,33 +39,31 @@ take-official-requires c κs = search needs
 returns : tie.Need-returns
 returns c =
     let wide = c .before .before in
-    let a = wide .before .before .args in
+    let a = wide .before .before .before .args in
     let t = asked (a .form) (a .market) (wide .before .differential-of .ensures) (wide .is-wide .ensures) (c .before .if1 .taken) in
     in-numbers (a .form) (a .side) (a .market) _ (c .take-official .ensures ∙ sym (theory-wide (a .form) (a .side) (a .market) t))
-
-quote-for-requires : tie.Need-quote-for-requires
-quote-for-requires c κs = search needs
 
 take-source-requires : tie.Need-take-source-requires
 take-source-requires c κs = search needs
 
 returns-2 : tie.Need-returns-2
 returns-2 c =
-    let test = c .before .before in
+    let test = c .before in
     let wide = test .before in
-    let a = wide .before .before .args in
+    let found = wide .before .before in
+    let a = found .before .args in
     let t = asked (a .form) (a .market) (wide .before .differential-of .ensures) (wide .is-wide .ensures) (test .if1 .left) in
-    let quote = ap (λ (q : Quote). sourceOf (q .price) (q .size) (a .market .official)) (c .before .quote-for .ensures) in
+    let quote = ap (λ (q : Quote). sourceOf (q .price) (q .size) (a .market .official)) (found .quote-for .ensures) in
     in-numbers (a .form) (a .side) (a .market) _ (c .take-source .ensures ∙ quote ∙ sym (theory-trusted (a .form) (a .side) (a .market) t))
 
 pub find-theory-spec : {M : Type 1} → statement M
 find-theory-spec =
     tie.close
     (tie.spec
+    quote-for-requires
     differential-of-requires
     is-wide-requires
     take-official-requires
     returns
-    quote-for-requires
     take-source-requires
     returns-2)
