@@ -1,7 +1,7 @@
 -- The first case of some bytes.
 use Prim.Native.Nat.{ℕ, _+_, _≤_, _<_}
 use mathlib.Core.Path.{_≡_, refl, sym, ap, _∙_}
-use mathlib.Core.Bool.{Bool, true, false, _&&_}
+use mathlib.Core.Bool.{Bool, true, false, _&&_, and-false}
 use mathlib.Core.List.{List, _++_}
 use native.Mathlib.Omega.{arith}
 use lib.ListN.{length, take, length-append, List·getD-append}
@@ -77,10 +77,6 @@ first-is s f =
     }
 
 -- ---- the length by the tests that lead there
-and-false : (a : Bool) → (a && false) ≡ false
-and-false true = refl
-and-false false = refl
-
 pick-and : (a b : Bool) (x : ℕ) → b ≡ false → pick (a && b) x 0 ≡ 0
 pick-and true b x e = simp e
 pick-and false b x e = refl

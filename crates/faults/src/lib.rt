@@ -1,4 +1,4 @@
-// The tests on facts behind "Numbers given back instead of a ruling" (RULE R3.4 to R3.9), in the table's order. Their
+// The tests on facts behind "Numbers given back instead of a ruling" (RULE R3.4 to R3.9), in the table's order; 4 also of a record's bytes. Their
 // definitions stand in `refusals`, beside those of 1 to 3; the code of 5 and 6 in `prices`. The first that fails is told.
 ghost use mathlib.Core.Path.{_≡_};
 ghost use mathlib.Core.Bool.{_&&_};

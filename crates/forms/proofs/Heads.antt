@@ -1,7 +1,7 @@
 -- What a length, a kind and a head are worth, told once for every pair that there is.
 use Prim.Native.Nat.{ℕ, _≤_}
 use mathlib.Core.Path.{_≡_, refl, sym, ap, _∙_}
-use mathlib.Core.Bool.{Bool, true, false, _&&_, _||_}
+use mathlib.Core.Bool.{Bool, true, false, _&&_, _||_, or-false}
 use mathlib.Core.List.{List}
 use mathlib.Core.Logic.{_⊎_, inl, inr, ⊎-elim}
 use native.Mathlib.Omega.{arith}
@@ -14,11 +14,6 @@ use Rattle.facts.specs.Numbers.{mills}
 use Rattle.forms.specs.Words.{Form, One, Two}
 use Rattle.forms.specs.Heads.{pairs, isLength, known, sizeIn, kindIn}
 use Rattle.forms.specs.Forms.{formLength, formKind, formOf}
-
--- a list of tests ends in the one that fails
-pub or-false : (b : Bool) → (b || false) ≡ b
-or-false true = refl
-or-false false = refl
 
 either-true : (a b : Bool) → (a || b) ≡ true → (a ≡ true) ⊎ (b ≡ true)
 either-true true b h = inl refl

@@ -1,7 +1,7 @@
 -- A case of 88 bytes is answered as before: every test says the same of it, and its ruling is the old one.
 use Prim.Native.Nat.{ℕ}
 use mathlib.Core.Path.{_≡_, refl, sym, ap, _∙_}
-use mathlib.Core.Bool.{Bool, true, false, _&&_}
+use mathlib.Core.Bool.{Bool, true, false, _&&_, and-true, and-false, or-false}
 use mathlib.Core.List.{List, []}
 use lib.ListN.{length}
 use lib.Dec.{leb, eqb}
@@ -10,7 +10,7 @@ use Rattle.wire.specs.Numbers.{numberAt}
 use Rattle.wire.specs.Tests.{pick, firstFailed}
 use Rattle.forms.specs.Heads.{pairs, isLength, known}
 use Rattle.forms.specs.Forms.{differentialOf}
-use Rattle.forms.proofs.Heads.{or-false, form-one}
+use Rattle.forms.proofs.Heads.{form-one}
 use Rattle.record.specs.Record.{factsOf}
 use Rattle.refusals.specs.Tests.{lengthOk, headOk, differentialOk, pricesOk}
 use Rattle.cases.specs.Cases.{refusalOf, readingOf}
@@ -25,14 +25,6 @@ use Rattle.kinds.specs.Before.{lengthBefore, headBefore, pricesBefore, t
 use Rattle.kinds.proofs.Rulings.{ruling-before}
 
 -- ---- the tests
-and-true : (b : Bool) → (b && true) ≡ b
-and-true true = refl
-and-true false = refl
-
-and-false : (b : Bool) → (b && false) ≡ false
-and-false true = refl
-and-false false = refl
-
 -- the pair of 88 bytes is (88, 1)
 pair-before : (size kind : ℕ) → (known size kind && eqb size 88) ≡ (eqb size 88 && eqb kind 1)
 unfolding known pairs

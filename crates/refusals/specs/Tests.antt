@@ -125,9 +125,11 @@ byteTests s = (2, headOk s) ∷ (3, codedOk s) ∷ []
 abbrev pub formTests : List ℕ → List (ℕ × Bool)
 formTests s = (1, lengthOk s) ∷ byteTests s
 
+-- length and head alone: what cutting a sheet has shown of each of its cases
 abbrev pub headTests : List ℕ → List (ℕ × Bool)
 headTests s = (1, lengthOk s) ∷ (2, headOk s) ∷ []
 
+-- those on facts that come after the codes
 abbrev pub laterTests : Facts → List (ℕ × Bool)
 laterTests f =
     (5, pricesOk f)
@@ -148,9 +150,10 @@ headFaultOf s = firstFailed (headTests s)
 unfoldable pub formFaultOf : List ℕ → ℕ
 formFaultOf s = firstFailed (formTests s)
 
--- the number of the first test that the facts fail, or 0; and of the first from 5 on
+-- the number of the first test from 5 on that the facts fail, or 0
 unfoldable pub laterFaultOf : Facts → ℕ
 laterFaultOf f = firstFailed (laterTests f)
 
+-- the number of the first test that the facts fail, or 0
 unfoldable pub faultOf : Facts → ℕ
 faultOf f = firstFailed (factTests f)

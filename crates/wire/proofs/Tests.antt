@@ -2,17 +2,13 @@
 use Prim.Native.Nat.{ℕ, zero, suc, _+_, _≤_, _<_}
 use native.Mathlib.Nat.{le-of-suc-le-suc, lt-of-lt-of-le, le-trans}
 use mathlib.Core.Path.{_≡_, refl, sym, subst}
-use mathlib.Core.Bool.{Bool, true, false, not, _&&_, true≢false, false≢true}
+use mathlib.Core.Bool.{Bool, true, false, not, _&&_, and-false, true≢false, false≢true}
 use mathlib.Core.List.{List, [], _∷_, _++_}
 use lib.Dec.{T, leb, eqb, leb→le, T-not}
 use native.Mathlib.Omega.{arith}
 use borrow.Author.Tests.{le-leb, lt-leb, leb-true, eqb-true, eqb-false}
 use borrow.Author.Needs.{zero≤}
 use Rattle.wire.specs.Tests.{pick, inRange, firstFailed}
-
-and-false : (a : Bool) → (a && false) ≡ false
-and-false true = refl
-and-false false = refl
 
 -- ---- a range, in the form that a `match` with ranges leaves: `lo ≤ n` where a test was left, `n < suc hi` where one was taken
 pub range-in : (lo hi n : ℕ) → lo ≤ n → n < suc hi → inRange lo hi n ≡ true

@@ -1,6 +1,6 @@
 use Prim.Native.Nat.{ℕ, _<_}
 use mathlib.Core.Path.{_≡_, refl, sym, ap₂}
-use mathlib.Core.Bool.{Bool, true, false, _&&_, _||_, false≢true}
+use mathlib.Core.Bool.{Bool, true, false, _&&_, _||_, and-false, false≢true}
 use lib.Dec.{ltb}
 use borrow.Author.Tests.{ltb-true}
 use Rattle.wire.proofs.Tests.{range-low, lt-lit}
@@ -13,10 +13,6 @@ use Rattle.faults.proofs.bytes_ok.Tie as tie
 low : (b : ℕ) → ltb b 48 ≡ true → codeByteOk b ≡ false
 unfolding codeByteOk
 low b h = let l = ltb-true b 48 h in simp (range-low 65 90 b (lt-lit b 48 65 l tt), range-low 48 57 b l)
-
-and-false : (b : Bool) → (b && false) ≡ false
-and-false true = refl
-and-false false = refl
 
 -- so where one of the four is, the four are no code
 low-told : (a b c d : ℕ) → (ltb a 48 || ltb b 48 || ltb c 48 || ltb d 48) ≡ true → false ≡ (codeByteOk a && codeByteOk b && codeByteOk c && codeByteOk d)

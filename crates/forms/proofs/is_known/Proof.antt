@@ -1,7 +1,7 @@
 -- The length tells which kind is asked for; a length of no kind is known with none.
 use borrow.Author.Tests.{ne-eqb}
+use mathlib.Core.Bool.{or-false}
 use Rattle.forms.specs.Heads.{pairs, known}
-use Rattle.forms.proofs.Heads.{or-false}
 use Rattle.forms.proofs.is_known.Statement.{statement}
 use Rattle.forms.proofs.is_known.Tie as tie
 

@@ -1,5 +1,5 @@
+use mathlib.Core.Bool.{or-false}
 use Rattle.forms.specs.Heads.{pairs, isLength}
-use Rattle.forms.proofs.Heads.{or-false}
 use Rattle.forms.proofs.is_length.Statement.{statement}
 use Rattle.forms.proofs.is_length.Tie as tie
 
