@@ -1,9 +1,11 @@
 -- The demands are not empty (RULE R13.4): a good record (`specimen`) is accepted, ruled in its 96 bytes, written back, and ruled in a sheet. A desk whose
 -- code and definitions are wrong alike, refusing everything, writing nothing or copying a sheet's first answer on, fails here. By computation;
 -- the bytes were worked out by hand.
-use Prim.Native.Nat.{ℕ}
+use Prim.Native.Nat.{ℕ, zero, suc, _<_}
 use mathlib.Core.Path.{_≡_, refl}
 use mathlib.Core.List.{List, [], _∷_, _++_}
+use native.Mathlib.Omega.{arith}
+use lib.ListN.{length}
 use Rattle.wire.specs.Laid.{row}
 use Rattle.wire.specs.Numbers.{bytes, stored, numberAt}
 use Rattle.wire.specs.Tests.{inRange}
@@ -28,6 +30,7 @@ use Rattle.forms.specs.Heads.{pairs, known, isLength}
 use Rattle.cut.specs.Cut.{begins, caseLength, cutBy, cut}
 use Rattle.sheet.specs.Sheet.{whole, caseAt, refusalBytes, entryBytes, ruledOne, ruledIn, wholeCases, sheetRefusalOf, sheetOf}
 use Rattle.specimen.specs.Good.{goodCase, goodTwo}
+use Rattle.demands.specs.Kinds.{AllKindOne}
 
 -- Trade 7, two Market Makers: a buy of 10 at 2.000, best offer 1.500, filed after 120 s. 2.000 is at least 1.500 + .25, so 1.500 + .15 for
 -- reason 6, all 10 contracts. In mills:
@@ -123,6 +126,18 @@ pub good-sheet : sheetOf (goodCase ++ badCase ++ openingCase) 288
     ≡ (record { refusal = 0; written = 204; ruled = 2; refused = 1 }, goodAnswer ++ badAnswer ++ openingAnswer)
 unfolding pairs known begins caseLength cutBy cut whole sheetOf sheetRefusalOf wholeCases row entryBytes refusalBytes ruledOne ruledIn caseAt readingOf refused refusalOf headOk zerosOk listsOk codesOk codeOk codeByteOk pricesOk quotesPriced countsOk timesOk limitsOk inRange numberAt factsOf tradeOf marketOf requestOf partyAt settlementOf priceOf momentOf sideOf kindOf dayOf agreementOf flagOf bandOf inError movedBy obviousAdjustmentOf wayOf obviousOpen openingOpen catastrophicOpen theoryOf heededOf inTime mayNullify openingTested openingStopped obviousAct openingAct actOf ruledAt ruledOn ruledBy rulingOf rulingRecord shows shownCode noticeRecord answerRecords answerOf isLength formOf
 good-sheet = refl
+
+-- Its cases are all of kind 1: what is said of such sheets (`sheet-as-before`) is said of it.
+good-long : (k : ℕ) → k < 3 → length (caseAt (goodCase ++ badCase ++ openingCase) k) ≡ 88
+unfolding pairs known begins caseLength cutBy cut caseAt numberAt
+good-long zero l = refl
+good-long (suc zero) l = refl
+good-long (suc (suc zero)) l = refl
+good-long (suc (suc (suc k))) l = absurd (omega arith)
+
+pub good-kind-one : AllKindOne (goodCase ++ badCase ++ openingCase)
+unfolding pairs known begins caseLength cutBy cut whole numberAt
+good-kind-one = (refl, good-long)
 
 -- So is one of both kinds: a case of kind 2 that waits, the good one of kind 1, one of kind 2 that is not wide.
 pub mixed-sheet : sheetOf (goodTwo ++ goodCase ++ narrowCase) 288
