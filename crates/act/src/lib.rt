@@ -65,7 +65,7 @@ fn limit_on(side: Side, buyer: Price, seller: Price) -> Price
 }
 
 // The side whose limit the opening way tests.
-fn opening_tested(side: Side, buyer: Kind, seller: Kind) -> Side
+pub fn opening_tested(side: Side, buyer: Kind, seller: Kind) -> Side
     ensures { λ r. ⌜ r ≡ openingTested side buyer seller ⌝ }
 {
     let other = other_side(side);

@@ -8,8 +8,11 @@ use Rattle.way.specs.Times.{noLater}
 use Rattle.agreement.specs.Words.{Seconds, Price, At, None, Moment, After, Never, Agreement, NotMade, OnPrice, ToNullify, Settlement, Way, Obvious, Opening, Catastrophic, Heeded, Ignored, Repriced, Undone}
 
 -- Where some party is a Customer an agreement is in time up to 1,800 s after notice, where none is up to 600 s (RULE R7.1).
+abbrev pub agreementTime : Bool → Seconds
+agreementTime customer = pick customer (seconds 1800) (seconds 600)
+
 unfoldable pub inTime : Seconds → Bool → Bool
-inTime made customer = pick customer (noLater made (seconds 1800)) (noLater made (seconds 600))
+inTime made customer = noLater made (agreementTime customer)
 
 abbrev pub isOpening : Way → Bool
 isOpening Obvious = false
@@ -40,6 +43,9 @@ heededNumber (Repriced p) = 1
 heededNumber Undone = 2
 
 -- A Customer's acceptance counts up to 1,800 s after notice; none is no acceptance (RULE R8.4.3).
+abbrev pub acceptanceTime : Seconds
+acceptanceTime = seconds 1800
+
 abbrev pub acceptedInTime : Moment → Bool
-acceptedInTime (After t) = noLater t (seconds 1800)
+acceptedInTime (After t) = noLater t acceptanceTime
 acceptedInTime Never = false

@@ -4,7 +4,7 @@
 ghost use mathlib.Core.Path.{_≡_};
 ghost use mathlib.Core.Logic.{_⊎_};
 ghost use Rattle.codes.specs.Codes.{agreementNumber};
-ghost use Rattle.agreement.specs.Agreed.{inTime, isOpening, mayNullify, termsOf, heededOf, heededNumber, acceptedInTime};
+ghost use Rattle.agreement.specs.Agreed.{agreementTime, inTime, isOpening, mayNullify, termsOf, heededOf, heededNumber, acceptedInTime};
 use facts::Agreement;
 use facts::Mills;
 use facts::Moment;
@@ -20,14 +20,21 @@ pub enum Heeded {
     Undone,
 }
 
-// An agreement made so many seconds after notice is in time.
-fn in_time(made: Seconds, customer: bool) -> bool
-    ensures { λ r. ⌜ r ≡ inTime made customer ⌝ }
+// How long after notice an agreement is in time; `customer` says that some party is a Customer.
+pub fn agreement_time(customer: bool) -> Seconds
+    ensures { λ r. ⌜ r ≡ agreementTime customer ⌝ }
 {
     if customer {
-        return way::no_later(made, Seconds(1800));
+        return Seconds(1800);
     }
-    way::no_later(made, Seconds(600))
+    Seconds(600)
+}
+
+// An agreement made so many seconds after notice is in time.
+pub fn in_time(made: Seconds, customer: bool) -> bool
+    ensures { λ r. ⌜ r ≡ inTime made customer ⌝ }
+{
+    way::no_later(made, agreement_time(customer))
 }
 
 fn is_opening(way: Way) -> bool
@@ -40,7 +47,8 @@ fn is_opening(way: Way) -> bool
     }
 }
 
-fn may_nullify(way: Way, customer: bool) -> bool
+// Whether an agreement to nullify counts.
+pub fn may_nullify(way: Way, customer: bool) -> bool
     ensures { λ r. ⌜ r ≡ mayNullify way customer ⌝ }
 {
     !customer | is_opening(way)

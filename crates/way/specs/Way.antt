@@ -14,6 +14,20 @@ obviousTime Customer = seconds 1200
 obviousTime MarketMaker = seconds 300
 obviousTime Other = seconds 1200
 
+-- The opening way opens once 1,200 s have passed, and is open up to 16:30:00 (RULE R4.2); the catastrophic way up to 17:00:00 under the
+-- expiry deadline, and without it on the next day up to 8:30:00 (RULE R4.3).
+abbrev pub openingAfter : Seconds
+openingAfter = seconds 1200
+
+abbrev pub openingBy : Seconds
+openingBy = seconds 59400
+
+abbrev pub expiryBy : Seconds
+expiryBy = seconds 61200
+
+abbrev pub nextDayBy : Seconds
+nextDayBy = seconds 30600
+
 -- Obvious: on day 0, and within that time (RULE R4.1).
 unfoldable pub obviousOpen : Day → Seconds → Seconds → Kind → Bool
 obviousOpen day executed filed kind = isTradeDate day && within (obviousTime kind) executed filed
@@ -21,13 +35,13 @@ obviousOpen day executed filed kind = isTradeDate day && within (obviousTime kin
 -- Opening: on day 0, of an opening trade, with a Customer in error, more than 1,200 s after execution, up to 16:30:00 (RULE R4.2).
 unfoldable pub openingOpen : Day → Bool → Seconds → Seconds → Kind → Bool
 openingOpen day opening executed filed kind =
-    isTradeDate day && opening && isCustomer kind && not (within (seconds 1200) executed filed) && noLater filed (seconds 59400)
+    isTradeDate day && opening && isCustomer kind && not (within openingAfter executed filed) && noLater filed openingBy
 
 -- Catastrophic: under the expiry deadline of byte 46 on day 0 up to 17:00:00; without it on all of day 0, and on day 1 up to 8:30:00
 -- (RULE R4.3).
 unfoldable pub catastrophicOpen : Day → Bool → Seconds → Bool
 catastrophicOpen day expiry filed =
-    pick expiry (isTradeDate day && noLater filed (seconds 61200)) (isTradeDate day || isNextDay day && noLater filed (seconds 30600))
+    pick expiry (isTradeDate day && noLater filed expiryBy) (isTradeDate day || isNextDay day && noLater filed nextDayBy)
 
 -- The first one open, in this order (RULE R4.0).
 abbrev pub firstOpen : Bool → Bool → Bool → Open

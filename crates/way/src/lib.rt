@@ -24,7 +24,7 @@ pub enum Open {
 
 // ---- times
 
-fn is_trade_date(d: Day) -> bool
+pub fn is_trade_date(d: Day) -> bool
     ensures { λ r. ⌜ r ≡ isTradeDate d ⌝ }
 {
     match d {
@@ -34,7 +34,7 @@ fn is_trade_date(d: Day) -> bool
     }
 }
 
-fn is_next_day(d: Day) -> bool
+pub fn is_next_day(d: Day) -> bool
     ensures { λ r. ⌜ r ≡ isNextDay d ⌝ }
 {
     match d {
@@ -52,7 +52,7 @@ pub fn no_later(t: Seconds, by: Seconds) -> bool
 }
 
 // Whether t comes at most so many seconds after a start. The sum is wide enough for any two numbers of seconds.
-fn within(count: Seconds, start: Seconds, t: Seconds) -> bool
+pub fn within(count: Seconds, start: Seconds, t: Seconds) -> bool
     ensures { λ r. ⌜ r ≡ within count start t ⌝ }
 {
     (t.0 as u64) <= (start.0 as u64) + (count.0 as u64)
@@ -61,7 +61,7 @@ fn within(count: Seconds, start: Seconds, t: Seconds) -> bool
 // ---- the three ways
 
 // How long after execution the obvious way is open to this party.
-fn obvious_time(kind: Kind) -> Seconds
+pub fn obvious_time(kind: Kind) -> Seconds
     ensures { λ r. ⌜ r ≡ obviousTime kind ⌝ }
 {
     match kind {

@@ -1,0 +1,4 @@
+pub mod Found
+pub mod Laws
+pub mod Record
+pub mod Exact

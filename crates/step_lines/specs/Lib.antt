@@ -1,0 +1,9 @@
+pub mod Words
+pub mod Rows
+pub mod Way
+pub mod Theory
+pub mod Error
+pub mod Agreed
+pub mod Act
+pub mod Counts
+pub mod Explained

@@ -1,0 +1,5 @@
+pub mod Table
+pub mod Cut
+pub mod Rows
+pub mod Lengths
+pub mod Exact
