@@ -1,13 +1,7 @@
--- The rows of an explanation one after the other, and the places of what stands on the one side or the other (RULE R2.6).
-use Prim.Native.Nat.{ℕ}
-use mathlib.Core.List.{List, [], _∷_, _++_}
+-- Values that rows share, and the places of what stands on the one side or the other (RULE R2.6).
 use Rattle.parties.specs.Parties.{bySide}
-use Rattle.words.specs.Pieces.{rowText, bytesAt}
-use Rattle.step_lines.specs.Words.{Mills, Seconds, Price, At, Moment, After, Side, Place, Value, Dollars, Lapse, Piece}
-
-unfoldable pub rowsText : List (List Piece) → List ℕ
-rowsText [] = []
-rowsText (r ∷ rs) = rowText r ++ rowsText rs
+use Rattle.words.specs.Pieces.{bytesAt}
+use Rattle.step_lines.specs.Words.{Mills, Seconds, Price, At, Moment, After, Side, Place, Value, Dollars, Lapse}
 
 -- a price that is there; seconds that have passed
 abbrev pub money : Mills → Value

@@ -3,3 +3,4 @@ pub mod Cut
 pub mod Rows
 pub mod Lengths
 pub mod Exact
+pub mod Runs

@@ -5,3 +5,4 @@ pub mod Starts
 pub mod Grouped
 pub mod Values
 pub mod Pieces
+pub mod Rows

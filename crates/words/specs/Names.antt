@@ -439,20 +439,17 @@ orWords = 144
 abbrev pub caseHasWords : ℕ
 caseHasWords = 145
 
-abbrev pub bytesLongWords : ℕ
-bytesLongWords = 146
-
 abbrev pub executionIsWords : ℕ
-executionIsWords = 147
+executionIsWords = 146
 
 abbrev pub executedAtWords : ℕ
-executedAtWords = 148
+executedAtWords = 147
 
 abbrev pub agreementIsWords : ℕ
-agreementIsWords = 149
+agreementIsWords = 148
 
 abbrev pub ruleRefusalWords : ℕ
-ruleRefusalWords = 150
+ruleRefusalWords = 149
 
 abbrev pub bracketWords : ℕ
-bracketWords = 151
+bracketWords = 150

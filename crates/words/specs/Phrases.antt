@@ -151,13 +151,12 @@ phrases =
     ∷ letters "  acceptance "  -- 142 acceptance-made
     ∷ letters " or more"  -- 143 or-more
     ∷ letters " or "  -- 144 or
-    ∷ letters "; the case has "  -- 145 case-has
-    ∷ letters " bytes"  -- 146 bytes-long
-    ∷ letters "; the execution price is "  -- 147 execution-is
-    ∷ letters "; executed at "  -- 148 executed-at
-    ∷ letters "; the agreement is "  -- 149 agreement-is
-    ∷ letters " [R3."  -- 150 rule-refusal
-    ∷ (letters "]" ++ (10 ∷ []))  -- 151 bracket
+    ∷ letters ", as long as the case is"  -- 145 case-has
+    ∷ letters "; the execution price is "  -- 146 execution-is
+    ∷ letters "; executed at "  -- 147 executed-at
+    ∷ letters "; the agreement is "  -- 148 agreement-is
+    ∷ letters " [R3."  -- 149 rule-refusal
+    ∷ (letters "]" ++ (10 ∷ []))  -- 150 bracket
     ∷ []
 
 -- the n-th; nothing where there is none
@@ -179,4 +178,4 @@ allPhrases = flat phrases
 
 -- how many there are
 abbrev pub phraseCount : ℕ
-phraseCount = 152
+phraseCount = 151

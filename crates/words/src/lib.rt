@@ -336,27 +336,25 @@ pub const OR: u8 = 144;
 
 pub const CASE_HAS: u8 = 145;
 
-pub const BYTES_LONG: u8 = 146;
+pub const EXECUTION_IS: u8 = 146;
 
-pub const EXECUTION_IS: u8 = 147;
+pub const EXECUTED_AT: u8 = 147;
 
-pub const EXECUTED_AT: u8 = 148;
+pub const AGREEMENT_IS: u8 = 148;
 
-pub const AGREEMENT_IS: u8 = 149;
+pub const RULE_REFUSAL: u8 = 149;
 
-pub const RULE_REFUSAL: u8 = 150;
+pub const BRACKET: u8 = 150;
 
-pub const BRACKET: u8 = 151;
+const PHRASE_COUNT: usize = 151;
 
-const PHRASE_COUNT: usize = 152;
-
-fn all_phrases() -> [u8; 2677]
+fn all_phrases() -> [u8; 2680]
     ensures { λ r. ⌜ r ≡ allPhrases ⌝ }
 {
-    *b"\ntrade : NONE: ADJUST: NULLIFY: WAIT, reason : REFUSED REFUSED   way        obvious: filed at   way        opening: filed at   way        catastrophic: filed at   way        none is open: filed at  on ,  after the execution at , executed at  [R4.1]\n [R4.2]\n [R4.3]\n [R4.4]\n             not obvious: filed on              not obvious: open to  for              not opening: filed on              not opening: an opening trade:              not opening: in error is              not opening: open only after              not opening: open up to              not catastrophic: filed on              not catastrophic: expiry deadline:              not catastrophic: next day, open up to , open up to , filed on   panel      already decided:  [R4.5]\n  quotes     the offer  is at least the bid  is under the bid  + twice : wide [R5.6]\n: not wide [R5.6]\n  TP         , the best offer [R5.1]\n, the best bid [R5.1]\n, an official's price  TP         none: the official's price is ; the best offer is ; the best bid is  [R5.2]\n, too wide [R5.8]\n [R5.3]\n, too wide [R5.9]\n  error       is at least  is under  +  -  = , by ;  is the obvious minimum for a TP of  is the catastrophic minimum for a TP of  to  [R6.1, R6.2]\n  agreement   [R7.4]\n, made  after notice; with a Customer allowed:  after notice; without a Customer allowed: : it counts [R7.2]\n: it counts [R7.3]\n: too late [R7.1, R7.4]\n: not with a Customer on this way [R7.3, R7.4]\n  act        the buyer is , the seller : : with a Customer undone [R8.2.2]\n [R8.2.1]\n  act        TP itself,  [R8.3.1]\n  act         [R8.4.1]\n  limit      the buyer is   limit      the seller is , its limit  is above it is below it does not violate it [R8.3.2]\n [R8.3.3]\n [R8.4.2]\n  acceptance after notice: ; allowed: : in time [R8.4.3]\n: not in time [R8.4.4]\n  contracts   of  adjusted to  stand; the quote's size is  [R9.1, R9.5]\n [R9.3]\n [R9.4]\n nullified [R9.4]\n stand [R9.5]\n  careful    the bid   careful    the offer   careful    the official's price   careful    the buyer's limit   careful    the seller's limit  read high byte first is , nearer the execution   length of the case   length at the head   kind at the head   zero bytes   side in error   on the opening   expiry deadline   panel already decided   buyer's kind   seller's kind   filing day   agreement   buyer's member code   seller's member code   execution price   best bid   best offer   official's price   buyer's limit   seller's limit   agreed price   permitted differential   contracts   bid size   offer size   execution time   filing time   agreement made   acceptance  or more or ; the case has  bytes; the execution price is ; executed at ; the agreement is  [R3.]\n"
+    *b"\ntrade : NONE: ADJUST: NULLIFY: WAIT, reason : REFUSED REFUSED   way        obvious: filed at   way        opening: filed at   way        catastrophic: filed at   way        none is open: filed at  on ,  after the execution at , executed at  [R4.1]\n [R4.2]\n [R4.3]\n [R4.4]\n             not obvious: filed on              not obvious: open to  for              not opening: filed on              not opening: an opening trade:              not opening: in error is              not opening: open only after              not opening: open up to              not catastrophic: filed on              not catastrophic: expiry deadline:              not catastrophic: next day, open up to , open up to , filed on   panel      already decided:  [R4.5]\n  quotes     the offer  is at least the bid  is under the bid  + twice : wide [R5.6]\n: not wide [R5.6]\n  TP         , the best offer [R5.1]\n, the best bid [R5.1]\n, an official's price  TP         none: the official's price is ; the best offer is ; the best bid is  [R5.2]\n, too wide [R5.8]\n [R5.3]\n, too wide [R5.9]\n  error       is at least  is under  +  -  = , by ;  is the obvious minimum for a TP of  is the catastrophic minimum for a TP of  to  [R6.1, R6.2]\n  agreement   [R7.4]\n, made  after notice; with a Customer allowed:  after notice; without a Customer allowed: : it counts [R7.2]\n: it counts [R7.3]\n: too late [R7.1, R7.4]\n: not with a Customer on this way [R7.3, R7.4]\n  act        the buyer is , the seller : : with a Customer undone [R8.2.2]\n [R8.2.1]\n  act        TP itself,  [R8.3.1]\n  act         [R8.4.1]\n  limit      the buyer is   limit      the seller is , its limit  is above it is below it does not violate it [R8.3.2]\n [R8.3.3]\n [R8.4.2]\n  acceptance after notice: ; allowed: : in time [R8.4.3]\n: not in time [R8.4.4]\n  contracts   of  adjusted to  stand; the quote's size is  [R9.1, R9.5]\n [R9.3]\n [R9.4]\n nullified [R9.4]\n stand [R9.5]\n  careful    the bid   careful    the offer   careful    the official's price   careful    the buyer's limit   careful    the seller's limit  read high byte first is , nearer the execution   length of the case   length at the head   kind at the head   zero bytes   side in error   on the opening   expiry deadline   panel already decided   buyer's kind   seller's kind   filing day   agreement   buyer's member code   seller's member code   execution price   best bid   best offer   official's price   buyer's limit   seller's limit   agreed price   permitted differential   contracts   bid size   offer size   execution time   filing time   agreement made   acceptance  or more or , as long as the case is; the execution price is ; executed at ; the agreement is  [R3.]\n"
 }
 
-const STARTS: [usize; 153] = [
+const STARTS: [usize; 152] = [
     0,
     0,
     1,
@@ -503,13 +501,12 @@ const STARTS: [usize; 153] = [
     2579,
     2587,
     2591,
-    2606,
-    2612,
-    2637,
-    2651,
-    2670,
-    2675,
-    2677,
+    2615,
+    2640,
+    2654,
+    2673,
+    2678,
+    2680,
 ];
 
 // ---- a phrase

@@ -2,7 +2,7 @@ use Prim.Native.Nat.{_≤_}
 use mathlib.Core.Path.{refl}
 use native.Mathlib.Omega.{arith}
 use lib.ListN.{length}
-use Rattle.step_lines.proofs.Rows.{row-alone}
+use Rattle.words.proofs.Runs.{row-alone}
 use borrow.Author.Needs.{needs}
 use Rattle.step_lines.proofs.add_act.Statement.{statement}
 use Rattle.step_lines.proofs.add_act.Tie as tie

@@ -2,7 +2,7 @@ use Prim.Native.Nat.{_≤_}
 use mathlib.Core.Path.{refl}
 use native.Mathlib.Omega.{arith}
 use lib.ListN.{length}
-use Rattle.step_lines.proofs.Rows.{no-rows, row-alone, row-more, rows-more}
+use Rattle.words.proofs.Runs.{no-rows, row-alone, row-more, rows-more}
 use borrow.Author.Needs.{needs}
 use Rattle.step_lines.proofs.add_before.Statement.{statement}
 use Rattle.step_lines.proofs.add_before.Tie as tie

@@ -2,7 +2,7 @@ use Prim.Native.Nat.{_≤_}
 use mathlib.Core.Path.{refl}
 use native.Mathlib.Omega.{arith}
 use lib.ListN.{length}
-use Rattle.step_lines.proofs.Rows.{no-rows, row-more}
+use Rattle.words.proofs.Runs.{no-rows, row-more}
 use borrow.Author.Needs.{needs}
 use Rattle.step_lines.proofs.add_shut.Statement.{statement}
 use Rattle.step_lines.proofs.add_shut.Tie as tie

@@ -10,9 +10,9 @@ use Rattle.wire.specs.Tests.{pick}
 use Rattle.wire.specs.Laid.{laid}
 use Rattle.text.specs.Text.{laidAt}
 use Rattle.text.proofs.Placed.{placed-next}
 use Rattle.words.specs.Pieces.{rowText}
-use Rattle.step_lines.specs.Words.{Piece}
-use Rattle.step_lines.specs.Rows.{rowsText}
+use Rattle.words.specs.Words.{Piece}
+use Rattle.words.specs.Rows.{rowsText}
 
 nothing-laid : (at : ℕ) (l : List ℕ) → at ≤ length l → l ≡ laidAt at [] l
 unfolding laidAt laid
