@@ -4,6 +4,7 @@ use contract.Lifetimes.{Lfts}
 use Rattle.wire.specs.Exact.{Exact, ExactIn}
 use Rattle.words.proofs.add_row.Reads as add-row
 use Rattle.words.proofs.bytes_at.Reads as bytes-at
+use Rattle.words.proofs.add_index.Reads as add-index
 use Rattle.words.proofs.said.Reads as said
 use Rattle.words.proofs.told.Reads as told
 use Rattle.words.proofs.found.Reads as found
@@ -22,3 +23,6 @@ told-exact a e e' r r' p q = p ∙ sym q
 
 pub found-exact : Exact (found.Post tt)
 found-exact a e e' r r' p q = p ∙ sym q
+
+pub add-index-exact : (κs : Lfts 1) → ExactIn (λ a. a .0) (add-index.Post κs)
+add-index-exact κs a e e' r r' p q = (p .0 ∙ sym (q .0), p .1 ∙ sym (q .1))

@@ -9,6 +9,7 @@ ghost use Rattle.words.specs.Phrases.{phrases, startOf, allPhrases, phra
 ghost use Rattle.words.specs.Grouped.{group, groupedBy, groupedText};
 ghost use Rattle.words.specs.Values.{kindWords, dayWords, flagWords, agreementWords, secondsText, lapseText, valueText, byteText, bytesText, placeText};
 ghost use Rattle.words.specs.Pieces.{pieceText, rowText, bytesAt, say, tell, found};
+ghost use Rattle.words.specs.Rows.{indexText};
 use facts::Agreement;
 use facts::Day;
 use facts::Kind;
@@ -764,4 +765,16 @@ pub fn found(phrase: u8, value: Value, place: Place) -> Piece
         value,
         place,
     }
+}
+
+// ---- what stands before the rows of a case
+
+// `#` joined to the index, and a space.
+pub fn add_index(out: &mut [u8], at: usize, index: u32) -> usize
+    requires { ⌜ at + 12 ≤ length (now out) ⌝ }
+    ensures { λ r. ⌜ (r ≡ at + length (indexText index)) × (now (out .exit) ≡ laidAt at (indexText index) (now (out .entry))) × (r ≤ at + 12) ⌝ }
+{
+    let mark = text::add_word(out, at, b"#");
+    let number = text::add_decimal(out, mark, index);
+    text::add_word(out, number, b" ")
 }

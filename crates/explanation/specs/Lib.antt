@@ -1,0 +1,3 @@
+pub mod Words
+pub mod Explained
+pub mod Pieces
