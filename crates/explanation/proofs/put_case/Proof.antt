@@ -1,3 +1,8 @@
+use native.Mathlib.Omega.{arith}
+use mathlib.Core.Path.{refl, sym, ap, _∙_}
+use denote.Ref.{now}
+use Rattle.wire.proofs.Laid.{laid-none}
+use Rattle.explanation.proofs.Told.{asked, not-asked}
 use borrow.Author.Needs.{needs}
 use Rattle.explanation.proofs.put_case.Statement.{statement}
 use Rattle.explanation.proofs.put_case.Tie as tie
@@ -16,10 +21,17 @@ same-length : tie.Need-same-length
 same-length c = search needs
 
 returns : tie.Need-returns
-returns c = ?
+returns c =
+    let w = c .before .before .put-indexed .ensures in
+    let a = c .before .before .before .before .before .before .before .before .args in
+    let e = asked (a .want) (a .index) (now (a .case)) (sym (c .before .before .before .before .before .is-wanted .ensures) ∙ c .before .before .before .before .if1 .taken) in
+    rw e w
 
 returns-2 : tie.Need-returns-2
-returns-2 c = ?
+returns-2 c =
+    let a = c .before .before .before .before .args in
+    let e = not-asked (a .want) (a .index) (now (a .case)) (sym (c .before .is-wanted .ensures) ∙ c .if1 .left) in
+    rw e (refl, laid-none _, omega arith)
 
 pub put-case-spec : {M : Type 1} → statement M
 put-case-spec =

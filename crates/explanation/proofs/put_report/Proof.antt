@@ -1,3 +1,9 @@
+use denote.Ref.{now}
+use Rattle.report.proofs.Pieces.{piece-most}
+use native.Mathlib.Omega.{arith}
+use Rattle.text.proofs.Placed.{ran-first}
+use Rattle.lines.proofs.Joined.{as-line}
+use Rattle.explanation.proofs.Told.{laid-told}
 use borrow.Author.Needs.{needs}
 use Rattle.explanation.proofs.put_report.Statement.{statement}
 use Rattle.explanation.proofs.put_report.Tie as tie
@@ -16,13 +22,19 @@ slice-aggregate-add-word : tie.Need-slice-aggregate-add-word
 slice-aggregate-add-word c = search needs
 
 add-word-requires : tie.Need-add-word-requires
-add-word-requires c κs = ?
+add-word-requires c κs =
+    let p = c .before .before .print-piece .ensures in
+    omega (arith, p .0 .0, p .1 .1, piece-most (now (c .before .before .before .before .before .before .args .sheet)) (c .before .before .before .before .before .before .args .k))
 
 same-length : tie.Need-same-length
 same-length c = search needs
 
 returns : tie.Need-returns
-returns c = ?
+returns c =
+    let p = c .before .before .before .before .before .print-piece .ensures in
+    let w = c .before .before .add-word .ensures in
+    let r = as-line _ _ _ _ _ (laid-told _ _ _ _ (p .0 .0) (p .0 .1)) (ran-first _ _ _ _ (w .0) (w .1)) in
+    (r .0, r .1, omega (arith, r .0, piece-most (now (c .before .before .before .before .before .before .before .before .before .args .sheet)) (c .before .before .before .before .before .before .before .before .before .args .k)))
 
 pub put-report-spec : {M : Type 1} → statement M
 put-report-spec =
