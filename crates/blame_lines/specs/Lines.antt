@@ -10,7 +10,7 @@ use Rattle.facts.specs.Numbers.{seconds, priceOf, momentOf}
 use Rattle.codes.specs.Codes.{agreementOf}
 use Rattle.words.specs.Names.{tradeWords, refusedWords, refusedCaseWords, endWords, caseLengthWords, headLengthWords, headKindWords, zeroWords, sideWords, openingFlagWords, expiryFlagWords, panelFlagWords, buyerKindWords, sellerKindWords, filingDayWords, agreementCodeWords, buyerCodeWords, sellerCodeWords, executionPriceWords, bestBidWords, bestOfferWords, officialPriceWords, buyerLimitWords, sellerLimitWords, agreedPriceWords, differentialWords, contractsTradedWords, bidSizeWords, offerSizeWords, executionTimeWords, filingTimeWords, agreementMadeWords, acceptanceMadeWords, allowedWords, toWords, orWords, orMoreWords, caseHasWords, bidIsWords, offerIsWords, executedAtWords, executionIsWords, agreementIsWords, ruleRefusalWords, bracketWords}
 use Rattle.words.specs.Pieces.{bytesAt, say, tell, found, blank}
-use Rattle.blame_lines.specs.Words.{FieldName, CaseLength, HeadLength, HeadKind, ZeroBytes, SideInError, OpeningFlag, ExpiryFlag, PanelFlag, BuyerKind, SellerKind, FilingDay, AgreementCode, BuyerCode, SellerCode, ExecutionPrice, BestBid, BestOffer, OfficialPrice, BuyerLimit, SellerLimit, AgreedPrice, Differential, ContractsTraded, BidSize, OfferSize, ExecutionTime, FilingTime, AgreementMade, AcceptanceMade, Measure, Plain, Counted, Money, Clocked, Lapsed, Lettered, Because, NoMatter, TheCase, TheBid, TheOffer, Executed, TheExecution, TheAgreement, Field, Blame, Sound, Bad, Value, Number, Count, Dollars, Time, Lapse, Letter, Terms, Piece}
+use Rattle.blame_lines.specs.Words.{FieldName, CaseLength, HeadLength, HeadKind, ZeroBytes, SideInError, OpeningFlag, ExpiryFlag, PanelFlag, BuyerKind, SellerKind, FilingDay, AgreementCode, BuyerCode, SellerCode, ExecutionPrice, BestBid, BestOffer, OfficialPrice, BuyerLimit, SellerLimit, AgreedPrice, Differential, ContractsTraded, BidSize, OfferSize, ExecutionTime, FilingTime, AgreementMade, AcceptanceMade, Measure, Plain, Counted, Money, Clocked, Lapsed, Lettered, Because, NoMatter, TheCase, TheBid, TheOffer, Executed, TheExecution, TheAgreement, Field, Blame, Sound, Bad, Value, Number, Count, Dollars, Time, Lapse, Letter, Terms, After, Piece}
 
 abbrev pub namePhrase : FieldName → ℕ
 namePhrase CaseLength = caseLengthWords
@@ -45,11 +45,15 @@ namePhrase AcceptanceMade = acceptanceMadeWords
 
 -- ---- numbers in their measure: of a member code the number that stands there, but the letters that are allowed
 
+-- what is no time of any day is told in seconds
+unfoldable pub timed : ℕ → Value
+timed n = pick (ltb n 360000) (Time (seconds n)) (Lapse (After (seconds n)))
+
 abbrev pub measured : Measure → ℕ → Value
 measured Plain n = Number n
 measured Counted n = Count n
 measured Money n = Dollars (priceOf n)
-measured Clocked n = Time (seconds n)
+measured Clocked n = timed n
 measured Lapsed n = Lapse (momentOf n)
 measured Lettered n = Number n
 

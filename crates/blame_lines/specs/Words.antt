@@ -8,6 +8,7 @@ pub use Rattle.blame.specs.declared.Because.the-variants.{NoMatter, TheCase, Th
 pub use Rattle.blame.specs.declared.Field.{Field}
 pub use Rattle.blame.specs.declared.Blame.{Blame}
 pub use Rattle.blame.specs.declared.Blame.the-variants.{Sound, Bad}
+pub use Rattle.facts.specs.declared.Moment.the-variants.{After}
 pub use Rattle.words.specs.declared.Value.{Value}
 pub use Rattle.words.specs.declared.Value.the-variants.{Number, Count, Dollars, Time, Lapse, Letter, Terms}
 pub use Rattle.words.specs.declared.Piece.{Piece}

@@ -6,12 +6,13 @@ ghost use Prim.Native.Nat.{_+_, _≤_};
 ghost use lib.ListN.{length};
 ghost use Rattle.text.specs.Text.{laidAt};
 ghost use Rattle.words.specs.Rows.{rowsText};
-ghost use Rattle.blame_lines.specs.Lines.{namePhrase, measured, bound, upperPiece, otherPiece, otherUpperPiece, priceIn, causePiece, becausePiece, fieldRow, strangeRow, refusedRow, refusedHead, fieldRows, blameRows};
+ghost use Rattle.blame_lines.specs.Lines.{namePhrase, timed, measured, bound, upperPiece, otherPiece, otherUpperPiece, priceIn, causePiece, becausePiece, fieldRow, strangeRow, refusedRow, refusedHead, fieldRows, blameRows};
 use blame::Because;
 use blame::Blame;
 use blame::Field;
 use blame::FieldName;
 use blame::Measure;
+use facts::Moment;
 use facts::Seconds;
 use words::Piece;
 use words::Value;
@@ -54,6 +55,16 @@ fn name_phrase(name: FieldName) -> u8
 
 // ---- numbers in their measure
 
+// A time of day; what is above 99:59:59 in seconds.
+fn timed(n: u32) -> Value
+    ensures { λ r. ⌜ r ≡ timed n ⌝ }
+{
+    if n < 360000 {
+        return Value::Time(Seconds(n));
+    }
+    Value::Lapse(Moment::After(Seconds(n)))
+}
+
 fn measured(unit: Measure, n: u32) -> Value
     ensures { λ r. ⌜ r ≡ measured unit n ⌝ }
 {
@@ -61,7 +72,7 @@ fn measured(unit: Measure, n: u32) -> Value
         Measure::Plain => Value::Number(n),
         Measure::Counted => Value::Count(n),
         Measure::Money => Value::Dollars(facts::price_of(n)),
-        Measure::Clocked => Value::Time(Seconds(n)),
+        Measure::Clocked => timed(n),
         Measure::Lapsed => Value::Lapse(facts::moment_of(n)),
         Measure::Lettered => Value::Number(n),
     }

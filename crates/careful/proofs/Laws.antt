@@ -55,15 +55,17 @@ pub record Told (s : List ℕ) (i : ℕ) (w : Warning) : Type 0 where
   pub place : w .at ≡ i
   pub price : millsOk (w .stands) ≡ true
   pub other : millsOk (w .turned) ≡ true
+  pub traded : millsOk (w .execution) ≡ true
   pub nearer : distance (turnedAt s i) (numberAt 4 s 8) < distance (numberAt 4 s i) (numberAt 4 s 8)
 
--- Each number told stands at the place told, or is the one there turned; both are prices, and the turned one is nearer.
+-- Each number told stands at the place told, or is the one there turned; all are prices, and the turned one is nearer to the execution.
 module _ (s : List ℕ) (i : ℕ) where
   holds-of : (w : Warning) → w ≡ warningAt s i → misleads w ≡ true → Told s i w
   unfolding misleads nearer warningAt
   holds-of w e h =
       let two = both-true _ (nearer w) h in
       let prices = both-true (millsOk (w .stands)) (millsOk (w .turned)) (two .0) in
+      let near = both-true (millsOk (w .execution)) (ltb (distance (w .turned .0) (w .execution .0)) (distance (w .stands .0) (w .execution .0))) (two .1) in
       record {
         stands = simp e;
         turned = simp e;
@@ -71,7 +73,8 @@ module _ (s : List ℕ) (i : ℕ) where
         place = simp e;
         price = prices .0;
         other = prices .1;
-        nearer = ltb-true _ _ (simp e at (two .1));
+        traded = near .0;
+        nearer = ltb-true _ _ (simp e at (near .1));
       }
 
   pub told-truly : (w : Warning) → cautionAt s i ≡ Careful w → Told s i w

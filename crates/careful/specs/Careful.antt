@@ -31,9 +31,9 @@ warningAt s i =
       at = i;
     }
 
--- the turned one is nearer to the execution than the one that stands
+-- the execution is a price, and the turned one is nearer to it than the one that stands
 unfoldable pub nearer : Warning → Bool
-nearer w = ltb (distance (w .turned .0) (w .execution .0)) (distance (w .stands .0) (w .execution .0))
+nearer w = millsOk (w .execution) && ltb (distance (w .turned .0) (w .execution .0)) (distance (w .stands .0) (w .execution .0))
 
 -- Both are prices, and the turned one is nearer. The mark none is no price.
 unfoldable pub misleads : Warning → Bool

@@ -86,7 +86,7 @@ fn misleads(w: Warning) -> bool
     let execution = w.execution;
     let near = distance(turned, execution);
     let far = distance(stands, execution);
-    is_price(stands) & is_price(turned) & (near < far)
+    is_price(stands) & is_price(turned) & (is_price(execution) & (near < far))
 }
 
 fn caution_at(s: &[u8], at: u8) -> Caution

@@ -3,6 +3,7 @@ use Rattle.blame_lines.proofs.measured.Statement.{statement}
 use Rattle.blame_lines.proofs.measured.Tie as tie
 use Rattle.blame_lines.proofs.measured.Reads as reads
 use Rattle.blame_lines.proofs.measured.Lts as lts
+use Rattle.blame_lines.proofs.timed.Reads as timed-reads
 use Rattle.facts.proofs.moment_of.Reads as moment-of-reads
 use Rattle.facts.proofs.price_of.Reads as price-of-reads
 
@@ -20,6 +21,9 @@ price-of-requires c κs = search needs
 
 enum-told-4 : tie.Need-enum-told-4
 enum-told-4 c = search needs
+
+timed-requires : tie.Need-timed-requires
+timed-requires c κs = search needs
 
 enum-told-5 : tie.Need-enum-told-5
 enum-told-5 c = search needs
@@ -40,7 +44,7 @@ returns-3 : tie.Need-returns-3
 returns-3 c = simp (c .price-of .ensures .0, c .before .enum-told3 .given .1)
 
 returns-4 : tie.Need-returns-4
-returns-4 c = simp (c .enum-told4 .given .1)
+returns-4 c = simp (c .timed .ensures, c .before .enum-told4 .given .1)
 
 returns-5 : tie.Need-returns-5
 returns-5 c = simp (c .moment-of .ensures .0, c .before .enum-told5 .given .1)
@@ -57,6 +61,7 @@ measured-spec =
     enum-told-3
     price-of-requires
     enum-told-4
+    timed-requires
     enum-told-5
     moment-of-requires
     enum-told-6

@@ -15,11 +15,14 @@ is-price-requires c κs = search needs
 is-price-requires-2 : tie.Need-is-price-requires-2
 is-price-requires-2 c κs = search needs
 
+is-price-requires-3 : tie.Need-is-price-requires-3
+is-price-requires-3 c κs = search needs
+
 returns : tie.Need-returns
 unfolding misleads nearer
-returns c = simp (c .is-price2 .ensures, c .before .is-price .ensures, c .before .before .distance2 .ensures, c .before .before .before .distance .ensures)
+returns c = simp (c .is-price3 .ensures, c .before .is-price2 .ensures, c .before .before .is-price .ensures, c .before .before .before .distance2 .ensures, c .before .before .before .before .distance .ensures)
 
 pub misleads-spec : {M : Type 1} → statement M
 misleads-spec =
     tie.close
-    (tie.spec distance-requires distance-requires-2 is-price-requires is-price-requires-2 returns)
+    (tie.spec distance-requires distance-requires-2 is-price-requires is-price-requires-2 is-price-requires-3 returns)
