@@ -1,49 +1,46 @@
+use Prim.Native.Nat.{_-_}
+use borrow.Author.Needs.{needs}
 use Rattle.explainer.proofs.tell.Statement.{statement}
 use Rattle.explainer.proofs.tell.Tie as tie
-use Rattle.explainer.proofs.tell.Reads as reads
-use Rattle.explainer.proofs.tell.Lts as lts
-use Rattle.explanation.proofs.count_pieces.Reads as count-pieces-reads
-use Rattle.explanation.proofs.explain_piece.Reads as explain-piece-reads
-use Rattle.io.proofs.write_all.Reads as write-all-reads
 
 abbrev Inv-loop : tie.InvT-loop
-Inv-loop sheet want text₀ n k₀ text k = ?
+Inv-loop sheet want text₀ n k₀ text k = Unit {0}
 
 abbrev μ-loop : tie.MeasureT-loop
-μ-loop sheet want text₀ n k₀ text k = ?
+μ-loop sheet want text₀ n k₀ text k = n - k
 
 count-pieces-requires : tie.Need-count-pieces-requires Inv-loop μ-loop
-count-pieces-requires c κs = ?
+count-pieces-requires c κs = search needs
 
 loop-holds : tie.Need-loop-holds Inv-loop μ-loop
-loop-holds c = ?
+loop-holds c = search needs
 
 explain-piece-requires : tie.Need-explain-piece-requires Inv-loop μ-loop
-explain-piece-requires c κs = ?
+explain-piece-requires c κs = search needs
 
 array-share-prefix-text : tie.Need-array-share-prefix-text Inv-loop μ-loop
-array-share-prefix-text c = ?
+array-share-prefix-text c = search needs
 
 slice-aggregate-write-all : tie.Need-slice-aggregate-write-all Inv-loop μ-loop
-slice-aggregate-write-all c = ?
+slice-aggregate-write-all c = search needs
 
 write-all-requires : tie.Need-write-all-requires Inv-loop μ-loop
-write-all-requires c κs = ?
+write-all-requires c κs = search needs
 
 returns : tie.Need-returns Inv-loop μ-loop
-returns c = ?
+returns c = search needs
 
 add-k : tie.Need-add-k Inv-loop μ-loop
-add-k c = ?
+add-k c = search needs
 
 loop-less : tie.Need-loop-less Inv-loop μ-loop
-loop-less c = ?
+loop-less c = search needs
 
 loop-again : tie.Need-loop-again Inv-loop μ-loop
-loop-again c = ?
+loop-again c = search needs
 
 returns-2 : tie.Need-returns-2 Inv-loop μ-loop
-returns-2 c = ?
+returns-2 c = search needs
 
 pub tell-spec : {M : Type 1} → statement M
 tell-spec =
