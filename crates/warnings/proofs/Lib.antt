@@ -1,1 +1,2 @@
 pub mod Warned
+pub mod Exact
