@@ -61,7 +61,9 @@ fn edits(
 }
 
 /// What no mutant of the rulings is asked for; without it each is compiled sooner.
-const NOT_ASKED: [&str; 4] = ["filling", "quotes", "told", "writing"];
+const NOT_ASKED: [&str; 8] = [
+    "careful", "explain", "filling", "quotes", "refused", "shown", "told", "writing",
+];
 
 /// The whole independent desk, as far as it rules.
 fn copy_page(page: &Path, folder: &Path) {

@@ -1,4 +1,4 @@
-//! The proved desk: the seven C functions of `target/staticlib/libdesk.a` (`include/desk.h`) behind
+//! The proved desk: the eight C functions of `target/staticlib/libdesk.a` (`include/desk.h`) behind
 //! a safe interface. All `unsafe` of the harness is here.
 
 use std::ptr;
@@ -17,6 +17,9 @@ pub const SHEET_BYTES: usize = 52_800;
 
 /// The bytes of text that [`print_sheet`] has room for.
 pub const TEXT_BYTES: usize = 65_536;
+
+/// The bytes of text that [`explain_case`] has room for.
+pub const EXPLANATION_BYTES: usize = 20_480;
 
 /// A quote record.
 pub const QUOTE_BYTES: usize = 28;
@@ -62,6 +65,7 @@ unsafe extern "C" {
     ) -> DeskSheet;
     pub(crate) fn desk_print_sheet(sheet: *const u8, len: usize, out: *mut [u8; TEXT_BYTES])
         -> u64;
+    fn desk_explain_case(case: *const u8, len: usize, out: *mut [u8; EXPLANATION_BYTES]) -> u64;
     fn desk_best_quotes(quotes: *const u8, len: usize, trade_time: u32, before: u64) -> DeskBest;
     fn desk_quotes_before(quotes: *const u8, len: usize, trade_time: u32) -> u64;
     fn desk_fill_case(quotes: *const u8, len: usize, record: *mut u8, record_len: usize) -> u32;
@@ -92,6 +96,13 @@ pub fn print_sheet(sheet: &[u8], out: &mut [u8; TEXT_BYTES]) -> u64 {
     // SAFETY: the pointer and the length are those of one live slice; `out` is a live array of the
     // declared size, lent exclusively, so the two do not overlap.
     unsafe { desk_print_sheet(sheet.as_ptr(), sheet.len(), out) }
+}
+
+/// Explains the ruling or the refusal of the case into `out`; the bytes of text.
+pub fn explain_case(case: &[u8], out: &mut [u8; EXPLANATION_BYTES]) -> u64 {
+    // SAFETY: the pointer and the length are those of one live slice; `out` is a live array of the
+    // declared size, lent exclusively, so the two do not overlap.
+    unsafe { desk_explain_case(case.as_ptr(), case.len(), out) }
 }
 
 /// The best bid and offer among each exchange's last quote before the trade; `before` is the number
@@ -136,7 +147,7 @@ pub mod null {
         }
     }
 
-    // SAFETY, of all seven: a pointer and a length are those of one live slice, or NULL and 0, which
+    // SAFETY, of all eight: a pointer and a length are those of one live slice, or NULL and 0, which
     // `include/desk.h` permits; what is written to is lent exclusively.
 
     pub fn check_case(case: &[u8]) -> u32 {
@@ -153,6 +164,10 @@ pub mod null {
 
     pub fn print_sheet(sheet: &[u8], out: &mut [u8; TEXT_BYTES]) -> u64 {
         unsafe { desk_print_sheet(pointer(sheet), sheet.len(), out) }
+    }
+
+    pub fn explain_case(case: &[u8], out: &mut [u8; EXPLANATION_BYTES]) -> u64 {
+        unsafe { desk_explain_case(pointer(case), case.len(), out) }
     }
 
     pub fn best_quotes(quotes: &[u8], trade_time: u32, before: u64) -> DeskBest {

@@ -5,19 +5,25 @@
 //! the proved desk, so that the two can be compared; it is also the benchmark's baseline for sheets.
 //! Every part uses only this folder (`super::`), so that the test of mutants can compile broken copies
 //! of it; the public parts are those that a broken copy of the quotes' part uses as they are.
+//!
+//! `explain`, `refused`, `careful` and `shown` are "A ruling explained", R17 of `docs/RULE.md`.
 
 mod act;
 mod answer;
 mod bands;
+mod careful;
 pub mod case;
+mod explain;
 mod filling;
 mod form;
 mod printer;
 mod quotes;
 pub mod reading;
 pub mod refusal;
+mod refused;
 mod ruling;
 mod sheet;
+mod shown;
 mod told;
 pub mod units;
 mod way;
@@ -26,7 +32,9 @@ mod writing;
 
 pub use answer::{rule_case, rule_sheet, Counts};
 pub use bands::{band, Band};
+pub use careful::careful_sheet;
 pub use case::{Agreement, Case, Day, Form, Kind, Party, Quote, Side, Terms};
+pub use explain::{explain_case, explain_sheet};
 pub use filling::fill_case;
 pub use form::{CASE_BYTES, WIDE_CASE_BYTES};
 pub use printer::print_sheet;
