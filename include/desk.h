@@ -1,11 +1,12 @@
 /* The desk: a trade that a member calls erroneous, ruled by the page (docs/RULE.md). The functions stand in libdesk.a, which
- * `rt staticlib desk` writes; they are proved to keep what is said here.
+ * `rt staticlib desk` writes, but for desk_explain_case, which stands in libcounter.a (`rt staticlib counter`); they are proved to
+ * keep what is said here.
  *
  * They ask nothing of the caller but valid pointers, each to as many bytes as its length says, and buffers that do not
  * overlap. Beside a length of 0 the pointer may be NULL. Any bytes may be given: what is not a case, a sheet or a list of
  * quotes gets the number of the first test that it fails (from desk_quotes_before, which has no room for it, 0). They keep no
- * state and allocate nothing. Of the stack desk_check_case takes 80 bytes, desk_rule_case 168, desk_rule_sheet 232 and
- * desk_print_sheet 280, as measured; those for quotes were not.
+ * state and allocate nothing. Of the stack desk_check_case takes 80 bytes, desk_rule_case 168, desk_rule_sheet 232,
+ * desk_print_sheet 280 and desk_explain_case 6,688, as measured; those for quotes were not.
  *
  * A program that was compiled when struct desk_best had five numbers, and desk_best_quotes three arguments, must be compiled
  * again: the linker does not see the difference. One that was written when bytes 10 and 11 of a ruling were both zero, under the
@@ -34,6 +35,7 @@ extern "C" {
 #define DESK_SHEET_CASES 600u    /* the most cases of a sheet: all of them of kind 1 */
 #define DESK_SHEET_BYTES 52800u  /* the longest sheet: 600 cases of kind 1; 573 of kind 2 take 52,716 */
 #define DESK_TEXT_BYTES 65536u   /* room for the text of any sheet */
+#define DESK_EXPLANATION_BYTES 20480u /* room for the explanation of any case */
 #define DESK_QUOTE_BYTES 28u     /* a quote record */
 #define DESK_QUOTES 2000u        /* the most quotes of a list */
 #define DESK_QUOTES_BYTES 56000u /* the longest list: 2,000 quotes */
@@ -243,6 +245,15 @@ struct desk_sheet desk_rule_sheet(const uint8_t *sheet, size_t len, uint8_t *out
  * bytes at most (eight numbers of ten digits at most and the outcome's seven letters, each with the byte after it), so that
  * DESK_TEXT_BYTES have room for DESK_SHEET_CASES of them. A sheet refused whole prints one line that says so. */
 uint64_t desk_print_sheet(const uint8_t *sheet, size_t len, uint8_t (*out)[DESK_TEXT_BYTES]);
+
+/* Of libcounter.a. Explains a case (docs/RULE.md, R17): gives back how many bytes of `out` are its text, always at most DESK_EXPLANATION_BYTES, and keeps
+ * every byte of `out` behind them. The text is lines of ASCII, each ended by a line feed. Of a case that is ruled it has the outcome and
+ * the reason, each step of the ruling that was reached, with the numbers that decided it and the bytes of the record where they stand,
+ * and the contracts; of a refused one its number and the field that broke the test; of any other bytes the number (1, 2) and what was
+ * expected. Behind that stand the prices that read high byte first would be nearer to the execution.
+ *
+ * It shows both parties' limits and what they agreed, so it is for the desk alone: nothing of it may go to a party. */
+uint64_t desk_explain_case(const uint8_t *record, size_t len, uint8_t (*out)[DESK_EXPLANATION_BYTES]);
 
 /* Looks up the best bid and offer at a trade: of each exchange the last quote strictly before `trade_time` counts, the later
  * record of one second; the highest bid and the lowest offer among them are given, each with the sum of the sizes at it. An

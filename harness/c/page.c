@@ -208,6 +208,17 @@ static const char *fault(const uint8_t sheet[CASES * DESK_CASE_BYTES])
     return NULL;
 }
 
+/* What is wrong with the explanation of the case of 0 contracts; NULL if nothing is. */
+static const char *fault_of_explanation(const uint8_t third[DESK_CASE_BYTES])
+{
+    static const char told[] = "trade 3: REFUSED 6\n  contracts 0 (bytes 12 to 15); allowed: 1 to 1,000,000 [R3.6]\n";
+    static uint8_t text[DESK_EXPLANATION_BYTES];
+
+    if (desk_explain_case(third, DESK_CASE_BYTES, &text) != sizeof told - 1 || memcmp(text, told, sizeof told - 1) != 0)
+        return "desk_explain_case: another text than the page's";
+    return NULL;
+}
+
 int main(void)
 {
     static uint8_t text[DESK_TEXT_BYTES];
@@ -221,6 +232,8 @@ int main(void)
         found = fault_of_origins(sheet);
     if (!found)
         found = fault_of_wide_cases(sheet);
+    if (!found)
+        found = fault_of_explanation(sheet + 2 * DESK_CASE_BYTES);
     if (found) {
         fprintf(stderr, "%s\n", found);
         return 1;

@@ -1,5 +1,5 @@
-//! The proved desk: the eight C functions of `target/staticlib/libdesk.a` (`include/desk.h`) behind
-//! a safe interface. All `unsafe` of the harness is here.
+//! The proved desk: the seven C functions of `target/staticlib/libdesk.a` and the one of
+//! `libcounter.a` (`include/desk.h`) behind a safe interface. All `unsafe` of the harness is here.
 
 use std::ptr;
 
@@ -65,7 +65,11 @@ unsafe extern "C" {
     ) -> DeskSheet;
     pub(crate) fn desk_print_sheet(sheet: *const u8, len: usize, out: *mut [u8; TEXT_BYTES])
         -> u64;
-    fn desk_explain_case(case: *const u8, len: usize, out: *mut [u8; EXPLANATION_BYTES]) -> u64;
+    pub(crate) fn desk_explain_case(
+        case: *const u8,
+        len: usize,
+        out: *mut [u8; EXPLANATION_BYTES],
+    ) -> u64;
     fn desk_best_quotes(quotes: *const u8, len: usize, trade_time: u32, before: u64) -> DeskBest;
     fn desk_quotes_before(quotes: *const u8, len: usize, trade_time: u32) -> u64;
     fn desk_fill_case(quotes: *const u8, len: usize, record: *mut u8, record_len: usize) -> u32;

@@ -4,7 +4,7 @@
 
 use std::arch::asm;
 
-use crate::desk::{self, DeskSheet, TEXT_BYTES};
+use crate::desk::{self, DeskSheet, EXPLANATION_BYTES, TEXT_BYTES};
 
 /// More than any call takes, by far: below it nothing guards the memory of others.
 const ROOM: usize = 1 << 16;
@@ -100,6 +100,22 @@ impl Stack {
         // pointer to an array of the declared size, lent exclusively.
         let (answer, bytes) =
             unsafe { self.call(desk::desk_print_sheet as *const () as usize, words) };
+        Taken { answer, bytes }
+    }
+
+    /// Explains the case into `out`.
+    pub fn explain_case(&mut self, case: &[u8], out: &mut [u8; EXPLANATION_BYTES]) -> Taken<u64> {
+        let words = [
+            case.as_ptr() as usize,
+            case.len(),
+            out.as_mut_ptr() as usize,
+            0,
+            0,
+        ];
+        // SAFETY: `desk_explain_case` takes a pointer and a length, those of one live slice, and a
+        // pointer to an array of the declared size, lent exclusively.
+        let (answer, bytes) =
+            unsafe { self.call(desk::desk_explain_case as *const () as usize, words) };
         Taken { answer, bytes }
     }
 

@@ -48,7 +48,8 @@ fn compiled(name: &str) -> PathBuf {
         .arg("-o")
         .arg(&program)
         .arg(home().join("c").join(name).with_extension("c"))
-        .arg(home().join("../target/staticlib/libdesk.a")));
+        .arg(home().join("../target/staticlib/libdesk.a"))
+        .arg(home().join("../target/staticlib/libcounter.a")));
     program
 }
 
@@ -226,6 +227,7 @@ fn the_header_has_the_lengths_of_the_safe_interface() {
         ("DESK_ANSWER_BYTES", desk::ANSWER_BYTES),
         ("DESK_SHEET_BYTES", desk::SHEET_BYTES),
         ("DESK_TEXT_BYTES", desk::TEXT_BYTES),
+        ("DESK_EXPLANATION_BYTES", desk::EXPLANATION_BYTES),
         ("DESK_QUOTE_BYTES", desk::QUOTE_BYTES),
         ("DESK_QUOTES_BYTES", desk::QUOTES_BYTES),
     ] {

@@ -1435,10 +1435,13 @@ fn careful_of_a_refused_case() {
         offer: 1_280,
         ..fields.clone()
     };
-    whole(&unpriced, &[
-        "trade 405: REFUSED 5",
-        "  execution price none (bytes 8 to 11); allowed: 0.000 to 9999.999 [R3.5]",
-    ]);
+    whole(
+        &unpriced,
+        &[
+            "trade 405: REFUSED 5",
+            "  execution price none (bytes 8 to 11); allowed: 0.000 to 9999.999 [R3.5]",
+        ],
+    );
     let side = Fields { side: 0, ..fields };
     careful(&side, &["the bid 655.360 (bytes 20 to 23) read high byte first is 2.560, nearer the execution 2.000 (bytes 8 to 11)"]);
 }

@@ -5,7 +5,9 @@
 
 use std::collections::BTreeSet;
 
-use harness::desk::{self, ANSWER_BYTES, CASE_BYTES, SHEET_BYTES, TEXT_BYTES, WIDE_CASE_BYTES};
+use harness::desk::{
+    self, ANSWER_BYTES, CASE_BYTES, EXPLANATION_BYTES, SHEET_BYTES, TEXT_BYTES, WIDE_CASE_BYTES,
+};
 use harness::fields::Fields;
 use harness::mixture::{well_headed, Mixture};
 use harness::random::Random;
@@ -45,12 +47,14 @@ fn little_stack() {
     let mut rule_case = Call::new("desk_rule_case", 184);
     let mut rule_sheet = Call::new("desk_rule_sheet", 232);
     let mut print_sheet = Call::new("desk_print_sheet", 280);
+    let mut explain_case = Call::new("desk_explain_case", 6704);
 
     let mut random = Random::new(settings::seed());
     let mixture = Mixture::default();
     let mut stack = Stack::default();
     let (mut out, mut out_too) = (vec![0; CASES * ANSWER_BYTES], vec![0; CASES * ANSWER_BYTES]);
     let (mut text, mut text_too) = ([0; TEXT_BYTES], [0; TEXT_BYTES]);
+    let (mut told, mut told_too) = ([0; EXPLANATION_BYTES], [0; EXPLANATION_BYTES]);
     let (mut refusals, mut reasons) = (BTreeSet::new(), BTreeSet::new());
     let mut origins = BTreeSet::new();
     for _ in 0..SHEETS {
@@ -61,6 +65,10 @@ fn little_stack() {
             rule_case.took(
                 stack.rule_case(case, &mut out),
                 desk::rule_case(case, &mut out_too),
+            );
+            explain_case.took(
+                stack.explain_case(case, &mut told),
+                desk::explain_case(case, &mut told_too),
             );
             refusals.insert(refusal);
             if refusal == 0 {
@@ -78,7 +86,10 @@ fn little_stack() {
             stack.print_sheet(&sheet, &mut text),
             desk::print_sheet(&sheet, &mut text_too),
         );
-        assert!(out == out_too && text == text_too, "the buffers");
+        assert!(
+            out == out_too && text == text_too && told == told_too,
+            "the buffers"
+        );
     }
     // Every way through a ruling was gone; no accepted case has reason 4.
     assert_eq!(
@@ -112,13 +123,19 @@ fn little_stack() {
     }
     print_sheet.took(stack.print_sheet(ragged, &mut text), 17);
 
-    for call in [&check_case, &rule_case, &rule_sheet, &print_sheet] {
+    for call in [
+        &check_case,
+        &rule_case,
+        &rule_sheet,
+        &print_sheet,
+        &explain_case,
+    ] {
         println!(
             "{}: {} bytes of stack, {} allowed",
             call.name, call.taken, call.most
         );
     }
-    for call in [check_case, rule_case, rule_sheet, print_sheet] {
+    for call in [check_case, rule_case, rule_sheet, print_sheet, explain_case] {
         assert!(
             call.taken <= call.most,
             "{} took {} bytes of stack",

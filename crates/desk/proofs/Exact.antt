@@ -6,7 +6,6 @@ use Rattle.desk.proofs.desk_check_case.Reads as check-case
 use Rattle.desk.proofs.desk_rule_case.Reads as rule-case
 use Rattle.desk.proofs.desk_rule_sheet.Reads as rule-sheet
 use Rattle.desk.proofs.desk_print_sheet.Reads as print-sheet
-use Rattle.desk.proofs.desk_explain_case.Reads as explain-case
 use Rattle.desk.proofs.desk_quotes_before.Reads as quotes-before
 use Rattle.desk.proofs.desk_best_quotes.Reads as best-quotes
 use Rattle.desk.proofs.desk_fill_case.Reads as fill-case
@@ -22,9 +21,6 @@ desk-rule-sheet-exact κs a e e' r r' p q = (p .0 ∙ sym (q .0), p .1 ∙ sym (
 
 pub desk-print-sheet-exact : (κs : Lfts 2) → ExactIn (λ a. a .1 .0) (print-sheet.Post κs)
 desk-print-sheet-exact κs a e e' r r' p q = (p .0 ∙ sym (q .0), p .1 ∙ sym (q .1))
-
-pub desk-explain-case-exact : (κs : Lfts 2) → ExactIn (λ a. a .1 .0) (explain-case.Post κs)
-desk-explain-case-exact κs a e e' r r' p q = (p .0 ∙ sym (q .0), p .1 ∙ sym (q .1))
 
 pub desk-quotes-before-exact : (κs : Lfts 1) → Exact (quotes-before.Post κs)
 desk-quotes-before-exact κs a e e' r r' p q = p ∙ sym q

@@ -1,4 +1,4 @@
-// The desk for other programs: eight functions on numbers and byte slices, in C's calling form (include/desk.h declares them). Each passes
+// The desk for other programs: seven functions on numbers and byte slices, in C's calling form (include/desk.h declares them). Each passes
 // its callee's promise on in the page's numbers, and asks nothing beyond what its types say.
 ghost use mathlib.Core.Path.{_≡_};
 ghost use lib.ListN.{length};
@@ -7,7 +7,6 @@ ghost use Rattle.cases.specs.Cases.{refusalOf};
 ghost use Rattle.answer.specs.Answer.{caseOf};
 ghost use Rattle.sheet.specs.Sheet.{sheetOf};
 ghost use Rattle.report.specs.Report.{textOf};
-ghost use Rattle.explanation.specs.Explained.{explainedOf};
 ghost use Rattle.earlier.specs.Earlier.{quotesBeforeOf};
 ghost use Rattle.best.specs.Looked.{lookedOf};
 ghost use Rattle.filling.specs.Filling.{fillingOf};
@@ -71,14 +70,6 @@ pub extern "C" fn desk_print_sheet(sheet: &[u8], out: &mut [u8; 65536]) -> u64
     ensures { λ r. ⌜ (r ≡ length (textOf (now (sheet .entry)))) × (now (out .exit) ≡ laid (textOf (now (sheet .entry))) (now (out .entry))) ⌝ }
 {
     report::print_sheet(sheet, out) as u64
-}
-
-// Explains a case, for the desk alone: how many bytes of the buffer are the text.
-#[no_mangle]
-pub extern "C" fn desk_explain_case(case: &[u8], out: &mut [u8; 20480]) -> u64
-    ensures { λ r. ⌜ (r ≡ length (explainedOf (now (case .entry)))) × (now (out .exit) ≡ laid (explainedOf (now (case .entry))) (now (out .entry))) ⌝ }
-{
-    explanation::explain_case(case, out) as u64
 }
 
 fn desk_best(l: Looked) -> DeskBest

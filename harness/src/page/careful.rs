@@ -34,7 +34,9 @@ pub fn careful_lines(shown: Shown) -> String {
 /// execution price too) and one nearer to the execution price than the price as it stands".
 fn nearer_when_turned(price: u32, execution: u32) -> Option<u32> {
     let turned = price.swap_bytes();
-    let prices = [price, turned, execution].iter().all(|&p| p <= HIGHEST_PRICE);
+    let prices = [price, turned, execution]
+        .iter()
+        .all(|&p| p <= HIGHEST_PRICE);
     let nearer = turned.abs_diff(execution) < price.abs_diff(execution);
     (prices && nearer).then_some(turned)
 }
