@@ -42,7 +42,17 @@ use Rattle.best_lines.proofs as best-lines
 use Rattle.standing.proofs as standing
 use Rattle.fillings.proofs as fillings
 use Rattle.fill_report.proofs as fill-report
+use Rattle.words.proofs as words
+use Rattle.steps.proofs as steps
+use Rattle.step_lines.proofs as step-lines
+use Rattle.blame.proofs as blame
+use Rattle.blame_lines.proofs as blame-lines
+use Rattle.careful.proofs as careful
+use Rattle.careful_lines.proofs as careful-lines
+use Rattle.warnings.proofs as warnings
+use Rattle.explanation.proofs as explanation
 use Rattle.desk.proofs as desk
+use Rattle.counter.proofs as counter
 use Rattle.specimen.proofs as specimen
 
 -- ---- wire
@@ -280,8 +290,20 @@ pub is-wide-exact : Exact (width.is_wide.Reads.Post tt)
 is-wide-exact = width.Exact.is-wide-exact
 
 -- ---- way, theory, agreement
+pub is-trade-date-exact : Exact (way.is_trade_date.Reads.Post tt)
+is-trade-date-exact = way.Exact.is-trade-date-exact
+
+pub is-next-day-exact : Exact (way.is_next_day.Reads.Post tt)
+is-next-day-exact = way.Exact.is-next-day-exact
+
 pub no-later-exact : Exact (way.no_later.Reads.Post tt)
 no-later-exact = way.Exact.no-later-exact
+
+pub within-exact : Exact (way.within.Reads.Post tt)
+within-exact = way.Exact.within-exact
+
+pub obvious-time-exact : Exact (way.obvious_time.Reads.Post tt)
+obvious-time-exact = way.Exact.obvious-time-exact
 
 pub find-way-exact : Exact (way.find_way.Reads.Post tt)
 find-way-exact = way.Exact.find-way-exact
@@ -295,6 +317,15 @@ tp-number-exact = theory.Exact.tp-number-exact
 pub origin-number-exact : Exact (theory.origin_number.Reads.Post tt)
 origin-number-exact = theory.Exact.origin-number-exact
 
+pub agreement-time-exact : Exact (agreement.agreement_time.Reads.Post tt)
+agreement-time-exact = agreement.Exact.agreement-time-exact
+
+pub in-time-exact : Exact (agreement.in_time.Reads.Post tt)
+in-time-exact = agreement.Exact.in-time-exact
+
+pub may-nullify-exact : Exact (agreement.may_nullify.Reads.Post tt)
+may-nullify-exact = agreement.Exact.may-nullify-exact
+
 pub heed-exact : Exact (agreement.heed.Reads.Post tt)
 heed-exact = agreement.Exact.heed-exact
 
@@ -304,6 +335,9 @@ accepted-in-time-exact = agreement.Exact.accepted-in-time-exact
 -- ---- act, reasons, ruling
 pub minimum-of-exact : Exact (act.minimum_of.Reads.Post tt)
 minimum-of-exact = act.Exact.minimum-of-exact
+
+pub opening-tested-exact : Exact (act.opening_tested.Reads.Post tt)
+opening-tested-exact = act.Exact.opening-tested-exact
 
 pub find-act-exact : Exact (act.find_act.Reads.Post tt)
 find-act-exact = act.Exact.find-act-exact
@@ -417,6 +451,62 @@ fill-sheet-exact = fillings.Exact.fill-sheet-exact
 pub print-filling-exact : (κs : Lfts 3) → ExactIn (λ a. a .1 .1 .0) (fill-report.print_filling.Reads.Post κs)
 print-filling-exact = fill-report.Exact.print-filling-exact
 
+-- ---- words
+pub add-row-exact : (κs : Lfts 1) → ExactIn (λ a. a .0) (words.add_row.Reads.Post κs)
+add-row-exact = words.Exact.add-row-exact
+
+pub bytes-at-exact : Exact (words.bytes_at.Reads.Post tt)
+bytes-at-exact = words.Exact.bytes-at-exact
+
+pub said-exact : Exact (words.said.Reads.Post tt)
+said-exact = words.Exact.said-exact
+
+pub told-exact : Exact (words.told.Reads.Post tt)
+told-exact = words.Exact.told-exact
+
+pub found-exact : Exact (words.found.Reads.Post tt)
+found-exact = words.Exact.found-exact
+
+pub add-index-exact : (κs : Lfts 1) → ExactIn (λ a. a .0) (words.add_index.Reads.Post κs)
+add-index-exact = words.Exact.add-index-exact
+
+-- ---- steps, step_lines
+pub find-steps-exact : Exact (steps.find_steps.Reads.Post tt)
+find-steps-exact = steps.Exact.find-steps-exact
+
+pub add-steps-exact : (κs : Lfts 1) → ExactIn (λ a. a .0) (step-lines.add_steps.Reads.Post κs)
+add-steps-exact = step-lines.Exact.add-steps-exact
+
+-- ---- blame, blame_lines
+pub find-blame-exact : (κs : Lfts 1) → Exact (blame.find_blame.Reads.Post κs)
+find-blame-exact = blame.Exact.find-blame-exact
+
+pub add-blame-exact : (κs : Lfts 2) → ExactIn (λ a. a .0) (blame-lines.add_blame.Reads.Post κs)
+add-blame-exact = blame-lines.Exact.add-blame-exact
+
+-- ---- careful, careful_lines
+pub find-cautions-exact : (κs : Lfts 1) → Exact (careful.find_cautions.Reads.Post κs)
+find-cautions-exact = careful.Exact.find-cautions-exact
+
+pub any-caution-exact : Exact (careful.any_caution.Reads.Post tt)
+any-caution-exact = careful.Exact.any-caution-exact
+
+pub add-cautions-exact : (κs : Lfts 1) → ExactIn (λ a. a .0) (careful-lines.add_cautions.Reads.Post κs)
+add-cautions-exact = careful-lines.Exact.add-cautions-exact
+
+-- ---- warnings, explanation
+pub warn-piece-exact : (κs : Lfts 2) → ExactIn (λ a. a .1 .1 .0) (warnings.warn_piece.Reads.Post κs)
+warn-piece-exact = warnings.Exact.warn-piece-exact
+
+pub explain-case-exact : (κs : Lfts 2) → ExactIn (λ a. a .1 .0) (explanation.explain_case.Reads.Post κs)
+explain-case-exact = explanation.Exact.explain-case-exact
+
+pub explain-piece-exact : (κs : Lfts 2) → ExactIn (λ a. a .1 .1 .1 .0) (explanation.explain_piece.Reads.Post κs)
+explain-piece-exact = explanation.Exact.explain-piece-exact
+
+pub count-pieces-exact : (κs : Lfts 1) → Exact (explanation.count_pieces.Reads.Post κs)
+count-pieces-exact = explanation.Exact.count-pieces-exact
+
 -- ---- desk
 pub desk-check-case-exact : (κs : Lfts 1) → Exact (desk.desk_check_case.Reads.Post κs)
 desk-check-case-exact = desk.Exact.desk-check-case-exact
@@ -429,6 +519,9 @@ desk-rule-sheet-exact = desk.Exact.desk-rule-sheet-exact
 
 pub desk-print-sheet-exact : (κs : Lfts 2) → ExactIn (λ a. a .1 .0) (desk.desk_print_sheet.Reads.Post κs)
 desk-print-sheet-exact = desk.Exact.desk-print-sheet-exact
+
+pub desk-explain-case-exact : (κs : Lfts 2) → ExactIn (λ a. a .1 .0) (counter.desk_explain_case.Reads.Post κs)
+desk-explain-case-exact = counter.Exact.desk-explain-case-exact
 
 pub desk-quotes-before-exact : (κs : Lfts 1) → Exact (desk.desk_quotes_before.Reads.Post κs)
 desk-quotes-before-exact = desk.Exact.desk-quotes-before-exact

@@ -10,6 +10,7 @@ pub mod Kinds
 pub mod Sheets
 pub mod Cuts
 pub mod Pieces
+pub mod Explained
 pub mod Quotes
 pub mod Counted
 pub mod Filled

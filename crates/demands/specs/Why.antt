@@ -1,14 +1,14 @@
--- Why demand 1 and the law of reordering hold: what a row of tests gives back, and what the definitions make of it. Nothing is promised here.
-use Prim.Native.Nat.{ℕ, _-_, _*_, _≤_, _<_, zero-le}
+-- Why demand 1, the law of reordering and what is said of explanations hold: what a row of tests gives back, and what the definitions make of it. Nothing is promised here.
+use Prim.Native.Nat.{ℕ, zero, suc, _+_, _-_, _*_, _≤_, _<_, zero-le}
 use mathlib.Core.Path.{_≡_, refl, sym, ap, subst, _∙_}
 use mathlib.Core.Bool.{Bool, true, false, _&&_}
 use mathlib.Core.Logic.{_⊎_, inl, inr}
-use mathlib.Core.List.{List, [], _∷_, _++_, append-assoc}
+use mathlib.Core.List.{List, [], _∷_, _++_, append-assoc, append-nil}
 use native.Mathlib.Omega.{arith}
 use lib.ListN.{length, take, drop, length-append}
 use lib.Seq.{take-at, take-append-seam}
 use lib.Dec.{leb, eqb}
-use borrow.Author.Tests.{leb-true, leb-false, le-leb, lt-leb, eqb-true, eqb-false}
+use borrow.Author.Tests.{leb-true, leb-false, le-leb, lt-leb, lt-ltb, le-ltb, eq-eqb, eqb-true, eqb-false}
 use Rattle.wire.specs.Laid.{laid, row}
 use Rattle.wire.specs.Tests.{pick, firstFailed}
 use Rattle.wire.proofs.Tests.{either, none-fails}
@@ -20,7 +20,7 @@ use Rattle.refusals.specs.Tests.{lengthOk, zerosOk, listsOk, formTests, factTes
 use Rattle.cases.specs.Words.{Facts}
 use Rattle.cases.specs.declared.Reading.{Reading}
 use Rattle.cases.specs.Cases.{refusalOf, accepted, readingOf, writeRefusalOf}
-use Rattle.cases.proofs.Laws.{case-passes, read-number, accepted-at, passed-facts}
+use Rattle.cases.proofs.Laws.{case-passes, read-number, accepted-at, passed-facts, formed, accepted-form}
 use Rattle.answer.specs.Answer.{caseRefusalOf, answerOf, caseOf}
 use Rattle.answer.proofs.Cases.{answer-length}
 use Rattle.sheet.specs.declared.SheetAnswer.{SheetAnswer}
@@ -33,6 +33,33 @@ use Rattle.lines.specs.Lines.{header, refusedLine, endLine, sheetLine}
 use Rattle.lines.proofs.Lengths.{header-most, end-most, sheet-most}
 use Rattle.report.specs.Report.{caseLine, lineOf, ruledText, textOf}
 use Rattle.report.proofs.Lines.{line-most}
+use Rattle.report.specs.Pieces.{pieceOf, piecesIn}
+use Rattle.report.proofs.Pieces.{piece-whole, enough-pieces}
+use Rattle.facts.specs.declared.Side.{Side}
+use Rattle.facts.specs.declared.Side.the-variants.{Buy, Sell}
+use Rattle.bands.specs.declared.Band.{Band}
+use Rattle.bands.specs.Table.{among, rows, lastRow, bandOf}
+use Rattle.way.specs.declared.Way.{Way}
+use Rattle.way.specs.declared.Way.the-variants.{Obvious, Opening, Catastrophic}
+use Rattle.act.specs.Minimum.{minimumOf}
+use Rattle.steps.specs.Found.{gapOf, errorOf}
+use Rattle.steps.proofs.True as shown
+use Rattle.words.specs.Rows.{rowsText}
+use Rattle.careful.specs.declared.Caution.{Caution}
+use Rattle.careful.specs.declared.Caution.the-variants.{Fine, Careful}
+use Rattle.careful.specs.Careful.{cautionAt, noCautions, cautionsIn, cautionsOf}
+use Rattle.careful.proofs.Found.{whole as careful-whole}
+use Rattle.careful.proofs.Laws.{told-truly, only-cases, every-case}
+use Rattle.careful_lines.specs.Lines.{warningRow, cautionRows, carefulRows}
+use Rattle.refusals.specs.Tests.{headFaultOf}
+use Rattle.told.specs.Stands.{EachStands}
+use Rattle.told.proofs.Rows.{rows-and}
+use Rattle.told.proofs.Told.{told-stand}
+use Rattle.words.specs.Names.{carefulBidWords, carefulOfferWords, carefulOfficialWords, carefulBuyerWords, carefulSellerWords}
+use Rattle.explanation.specs.declared.Wanted.{Wanted}
+use Rattle.explanation.specs.Explained.{toldRows, explainedRows, explainedOf}
+use Rattle.explanation.specs.Pieces.{deskAlone, casePiece, explainedPiece, explanationOf}
+use Rattle.explanation.proofs.Told.{told-ruled, whole-piece, refused-piece, pieces-whole}
 use Rattle.round_trips.proofs.Again.{sound}
 use Rattle.facts.specs.declared.Mills.{Mills}
 use Rattle.facts.specs.declared.Price.the-variants.{At}
@@ -375,3 +402,109 @@ best-of-sixteen h qs = (no-better-said h qs, is-one h qs)
 pub same-filling : (q p s : List ℕ) → foundFor q s ≡ foundFor p s → fillingOf q s ≡ fillingOf p s
 unfolding fillingOf fillRefusalOf
 same-filling q p s h = rw h
+
+-- ---- the explanation of a case, and of a sheet from its pieces
+pub careful-last : (s : List ℕ) → explainedOf s ≡ rowsText (toldRows s ++ carefulRows (cautionsOf s))
+unfolding explainedOf explainedRows
+careful-last s = refl
+
+row-first : (f : ℕ → List ℕ) (n : ℕ) → row f (suc n) ≡ f 0 ++ row (λ k. f (suc k)) n
+unfolding row
+row-first f zero = sym (append-nil (f 0))
+row-first f (suc n) = rw (row-first f n, append-assoc)
+
+module _ (s : List ℕ) (want : Wanted) where
+  pub refused-explained : wholeCases s ≡ false → explanationOf s want ≡ sheetLine 10
+  unfolding explanationOf
+  refused-explained h =
+      row-same (explainedPiece s want) (pieceOf s) (piecesIn s) (λ k _. refused-piece s want k h)
+      ∙ enough-pieces s (piecesIn s) (omega arith)
+      ∙ text-answered s .1 h
+
+  pub sheet-explained : wholeCases s ≡ true
+      → explanationOf s want ≡ deskAlone ++ (row (λ k. casePiece want k (caseAt s k)) (casesIn s) ++ endLine (ruledIn s (casesIn s)) (casesIn s - ruledIn s (casesIn s)))
+  unfolding explanationOf row
+  sheet-explained h =
+      let n = casesIn s in
+      let count : piecesIn s ≡ suc (suc n) = omega (arith, pieces-whole s h) in
+      let head : explainedPiece s want 0 ≡ deskAlone = whole-piece s want 0 h in
+      let cases : row (λ k. explainedPiece s want (suc k)) n ≡ row (λ k. casePiece want k (caseAt s k)) n
+      = row-same (λ k. explainedPiece s want (suc k)) (λ k. casePiece want k (caseAt s k)) n (λ k l. whole-piece s want (suc k) h ∙ simp (lt-ltb k n l)) in
+      let end : explainedPiece s want (suc n) ≡ endLine (ruledIn s n) (n - ruledIn s n)
+      = whole-piece s want (suc n) h ∙ (simp (le-ltb n n (omega arith))) ∙ piece-whole s h (suc n) ∙ simp (le-ltb n n (omega arith), eq-eqb n n refl) in
+      ap (row (explainedPiece s want)) count ∙ row-first (explainedPiece s want) (suc n) ∙ rw (head, cases, end) refl
+
+-- ---- what is told with a place stands there: of the careful lines, and so of the whole explanation of an accepted case
+caution-stands : (s : List ℕ) (phrase i : ℕ) → i + 4 ≤ length s → 8 + 4 ≤ length s → (c : Caution) → cautionAt s i ≡ c → EachStands s (cautionRows phrase c)
+unfolding warningRow
+caution-stands s phrase i fits far Fine e = tt
+caution-stands s phrase i fits far (Careful w) e =
+    let t = told-truly s i w e in
+    (((rw (t .place) fits, rw (t .place) (sym (t .stands))), (tt, ((far, sym (t .execution)), (tt, (tt, (tt, (tt, (tt, (tt, (tt, tt)))))))))), tt)
+
+module _ (s : List ℕ) where
+  cautions-stand : 88 ≤ length s → EachStands s (carefulRows (cautionsIn s))
+  unfolding carefulRows cautionsIn
+  cautions-stand long =
+      let far : 8 + 4 ≤ length s = omega arith in
+      let bid = cautionRows carefulBidWords (cautionAt s 20) in
+      let offer = cautionRows carefulOfferWords (cautionAt s 24) in
+      let official = cautionRows carefulOfficialWords (cautionAt s 40) in
+      let buyer = cautionRows carefulBuyerWords (cautionAt s 52) in
+      let seller = cautionRows carefulSellerWords (cautionAt s 60) in
+      rows-and s (((bid ++ offer) ++ official) ++ buyer) seller
+      (rows-and s ((bid ++ offer) ++ official) buyer
+      (rows-and s (bid ++ offer) official
+      (rows-and s bid offer
+      (caution-stands s carefulBidWords 20 (omega arith) far (cautionAt s 20) refl)
+      (caution-stands s carefulOfferWords 24 (omega arith) far (cautionAt s 24) refl))
+      (caution-stands s carefulOfficialWords 40 (omega arith) far (cautionAt s 40) refl))
+      (caution-stands s carefulBuyerWords 52 (omega arith) far (cautionAt s 52) refl))
+      (caution-stands s carefulSellerWords 60 (omega arith) far (cautionAt s 60) refl)
+
+  pub careful-stand : EachStands s (carefulRows (cautionsOf s))
+  unfolding carefulRows noCautions
+  careful-stand = by-test (eqb (headFaultOf s) 0) refl where
+    by-test : (b : Bool) → eqb (headFaultOf s) 0 ≡ b → EachStands s (carefulRows (cautionsOf s))
+    by-test true h = let e = eqb-true (headFaultOf s) 0 h in rw (every-case s e) (cautions-stand (careful-whole s e))
+    by-test false h = rw (only-cases s (eqb-false (headFaultOf s) 0 h)) tt
+
+  pub explained-stand : refusalOf s ≡ 0 → EachStands s (explainedRows s)
+  unfolding explainedRows
+  explained-stand h =
+      rows-and s (toldRows s) (carefulRows (cautionsOf s))
+      (subst (EachStands s) (told-ruled s h) (told-stand s (formed s (accepted-form s (read-number s ∙ h))) _))
+      careful-stand
+
+-- ---- a sum that an explanation shows is not cut short: a minimum is 15 dollars at most
+abbrev Low : Band → Type 0
+Low b = (b .obvious .0 ≤ 15000) × (b .catastrophic .0 ≤ 15000)
+
+abbrev AllLow : List Band → Type 0
+AllLow [] = Unit {0}
+AllLow (b ∷ bs) = Low b × AllLow bs
+
+among-low : (last : Band) (bs : List Band) (tp : Mills) → Low last → AllLow bs → Low (among last bs tp)
+among-low last [] tp h t = h
+among-low last (b ∷ bs) tp h t = either Low (leb (tp .0) (b .top .0)) b (among last bs tp) (λ _. t .0) (λ _. among-low last bs tp h (t .1))
+
+table-low : (tp : Mills) → Low (bandOf tp)
+unfolding bandOf
+table-low tp =
+    let all : AllLow rows
+    = ((omega arith, omega arith), ((omega arith, omega arith), ((omega arith, omega arith), ((omega arith, omega arith), ((omega arith, omega arith), ((omega arith, omega arith), tt)))))) in
+    among-low lastRow rows tp (omega arith, omega arith) all
+
+minimum-most : (way : Way) (tp : Mills) → minimumOf way (bandOf tp) .0 ≤ 15000
+minimum-most Obvious tp = table-low tp .0
+minimum-most Opening tp = table-low tp .0
+minimum-most Catastrophic tp = table-low tp .1
+
+pub sum-tested : (side : Side) (execution tp : Mills) (way : Way) → execution .0 ≤ 9999999 → tp .0 ≤ 9999999
+    → errorOf side execution tp way .wrong ≡ leb (errorOf side execution tp way .reach .0) (errorOf side execution tp way .high .0)
+sum-tested Buy execution tp way h k = shown.sum-tested Buy execution tp way (omega (arith, minimum-most way tp))
+sum-tested Sell execution tp way h k = shown.sum-tested Sell execution tp way (omega (arith, minimum-most way tp))
+
+pub gap-tested : (differential bid offer : Mills) → differential .0 ≤ 9999999 → bid .0 ≤ 9999999
+    → gapOf differential bid offer .wide ≡ leb (gapOf differential bid offer .reach .0) (gapOf differential bid offer .offer .0)
+gap-tested differential bid offer h k = shown.gap-tested differential bid offer (omega arith)

@@ -28,7 +28,7 @@ fn tell(sheet: &[u8], want: Wanted) -> bool {
 fn main() {
     let mut trade = [0u8; 4];
     let brought = io::read_full(3, &mut trade);
-    if !ended(3) {
+    if !ended(3) | ((brought != 0) & (brought != 4)) {
         io::write_all(2, b"explainer: the trade cannot be read\n");
         return;
     }

@@ -1,5 +1,5 @@
--- The error's row (RULE R17.7): the higher price, whether it is at least the lower one plus the minimum, by how much it is over or short, and
--- the row of the table that has the minimum.
+-- The error's row (RULE R17.7): the price that would be the higher one of an error, whether it is at least the other plus the minimum, by how much it
+-- is over or short, and the row of the table that has the minimum.
 use Prim.Native.Nat.{ℕ}
 use mathlib.Core.Bool.{Bool}
 use mathlib.Core.List.{List, [], _∷_}
@@ -10,7 +10,7 @@ use Rattle.words.specs.Pieces.{bytesAt, nowhere, say, tell, found, blank}
 use Rattle.step_lines.specs.Words.{Side, Way, Obvious, Opening, Catastrophic, Off, Place, Piece}
 use Rattle.step_lines.specs.Rows.{money}
 
--- the execution is the higher price of a buy, the lower one of a sell; where TP stands its own row has told
+-- of a buy the execution is held against TP, of a sell TP against the execution; where TP stands its own row has told
 abbrev pub highPlace : Side → Place
 highPlace side = bySide side (bytesAt 8 4) nowhere
 

@@ -61,7 +61,7 @@ unfoldable pub floorOf : Mills → Mills
 floorOf tp = floorAmong 0 rows tp
 
 -- The row for TP, the way's minimum in it, and the two prices: a buy is in error whose execution is at least TP plus the minimum, a sell
--- whose TP is at least the execution plus the minimum. `by` is how far the higher price is from there.
+-- whose TP is at least the execution plus the minimum. `by` is how far the price that is tested, `high`, is from there.
 unfoldable pub errorOf : Side → Mills → Mills → Way → Off
 errorOf side execution tp way =
     let least = minimumOf way (bandOf tp) in
