@@ -1,4 +1,4 @@
--- What an explanation tells is so. Every number that it tells with a place in the record stands at that place, and the record has that place: of any
+-- What the rows of a ruled case tell is so. Every number that they tell with a place in the record stands at that place, and the record has that place: of any
 -- bytes that have the form of a case, and so of every case that is accepted (`told-stand`, `told-accepted`). The head and the contracts, which have no place, are those of
 -- the ruling: it makes no difference whether they are taken from the ruling or from the steps (`ruling-told`).
 use Prim.Native.Nat.{ℕ}
