@@ -2,6 +2,8 @@
 // is, each for its reason. A limit is read for one thing, whether the price that is tested violates it, and goes
 // into an act as that yes or no. Refuses nothing and asks nothing: the row of the table is an argument, and any
 // row has an act.
+#![tactic(auto)]
+
 ghost use Rattle.std.specs.Prelude.{◌≡◌, true};
 ghost use Rattle.facts.specs.Numbers.{price_number};
 ghost use Rattle.parties.specs.Parties.{by_side};

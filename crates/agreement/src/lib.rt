@@ -1,6 +1,8 @@
 // What the parties settled after notice, as far as it counts: the agreement that a ruling heeds, and a Customer's
 // acceptance. Refuses nothing: whatever does not count is ignored. An agreement on a price without a price, which
 // refusal 9 keeps out of every accepted case, is ignored too.
+#![tactic(auto)]
+
 ghost use Rattle.std.specs.Prelude.{◌≡◌, ◌⊎◌};
 ghost use Rattle.codes.specs.Codes.{agreement_number};
 ghost use Rattle.agreement.specs.Agreed.{agreement_time, in_time, is_opening, may_nullify, terms_of, heeded_of, heeded_number, accepted_in_time};

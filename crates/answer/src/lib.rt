@@ -1,5 +1,7 @@
 // One case ruled: the ruling and its two notices in a lent buffer, or the number of the first test that the case fails.
 // Refused with 1, 11 and 2 to 9, in that order; a refused case leaves the buffer as it was.
+#![tactic(auto)]
+
 ghost use Rattle.std.specs.Prelude.{◌≡◌, ◌≤◌, length};
 ghost use Rattle.wire.specs.Laid.{laid};
 ghost use Rattle.record.specs.Record.{facts_of};

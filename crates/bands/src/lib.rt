@@ -1,6 +1,8 @@
 // The error table: the row for a theoretical price (TP), whether an execution is in error, and where an
 // adjustment moves TP. Refuses nothing and asks nothing: a TP above every other row has the last one, and a
 // move past the numbers that there are stops at the end, where the adjustment of an error never comes.
+#![tactic(auto)]
+
 ghost use Rattle.std.specs.Prelude.{◌≡◌};
 ghost use Rattle.bands.specs.Table.{band_of};
 ghost use Rattle.bands.specs.Amounts.{obvious_adjustment_of, in_error, moved_by};

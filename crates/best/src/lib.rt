@@ -2,6 +2,8 @@
 // bytes as quotes, any number as the trade's time and any as the number of quotes before it give both, or are refused with 20 to 23 or 28. Of each
 // exchange its last quote strictly before the trade has a say. They are found by a walk back from the last quote before the trade, which takes the
 // first that it meets of each exchange and stops where all sixteen are known.
+#![tactic(auto)]
+
 ghost use Rattle.std.specs.Prelude.{◌≡◌, true, ◌/◌, ◌≤◌, ◌<◌, length};
 ghost use Rattle.quotes.specs.Quotes.{posted_from, quotes_in, posted_in, records_ok};
 ghost use Rattle.earlier.specs.Earlier.{earlier, quotes_before_of};

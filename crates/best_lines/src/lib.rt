@@ -1,6 +1,8 @@
 // The lines that say where a best price was born: the best bid or offer, and an exchange whose last quote is at that price. They go into a lent
 // buffer from a place on, every other byte stays, and the answer is the place after them. Nothing is refused here: whoever asks has tested the
 // room.
+#![tactic(auto)]
+
 ghost use Rattle.std.specs.Prelude.{◌≡◌, ◌+◌, ◌≤◌, length};
 ghost use Rattle.text.specs.Text.{laid_at};
 ghost use Rattle.halves.specs.Halves.{same};

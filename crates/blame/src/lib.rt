@@ -1,6 +1,8 @@
 // Which field of a refused case broke its test, and what the field may hold (RULE R3.1 to R3.9). The fields of a test are asked in the record's
 // order, the tests in the table's; the first field that is not in order is told, with the number that stands there and the bounds it was held
 // against. The test of that field is the case's refusal (proofs/Numbers.antt).
+#![tactic(auto)]
+
 ghost use Rattle.std.specs.Prelude.{◌≡◌, ◌+◌, ◌≤◌, ◌<◌, length};
 ghost use Rattle.wire.specs.Numbers.{number_at};
 ghost use Rattle.facts.specs.Numbers.{price_of};

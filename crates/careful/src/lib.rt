@@ -1,5 +1,7 @@
 // Prices whose bytes, read in the wrong order, are prices too, and ones nearer to the execution than the prices as they stand: found as
 // values, for people to look at. Refuses nothing, and no ruling reads them.
+#![tactic(auto)]
+
 ghost use Rattle.std.specs.Prelude.{◌≡◌, [], ◌∷◌, ◌+◌, ◌≤◌, length};
 ghost use Rattle.wire.specs.Numbers.{joined};
 ghost use Rattle.refusals.specs.Tests.{mills_ok};

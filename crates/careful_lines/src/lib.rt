@@ -1,5 +1,7 @@
 // The rows that warn of a price which may be turned. What is written goes into a lent buffer from a place on, every other byte stays, and the answer
 // is the place after it. Nothing is refused here: whoever asks has tested the room, 1,040 bytes for each row.
+#![tactic(auto)]
+
 ghost use Rattle.std.specs.Prelude.{◌≡◌, ◌+◌, ◌≤◌, length};
 ghost use Rattle.text.specs.Text.{laid_at};
 ghost use Rattle.words.specs.Rows.{rows_text};

@@ -1,6 +1,8 @@
 // A case read and written: any byte string gives facts or the number of the first test that it fails; any facts give
 // the bytes of their form or such a number. Refused with 1 to 9 in reading, 11 and 4 to 9 in writing (3 cannot arise there: the facts'
 // types have no other cases). A refused writing leaves the buffer as it was.
+#![tactic(auto)]
+
 ghost use Rattle.std.specs.Prelude.{◌≡◌, length, replicate};
 ghost use Rattle.wire.specs.Laid.{laid};
 ghost use Rattle.wire.specs.Numbers.{AreBytes};

@@ -1,6 +1,8 @@
 // The coded bytes of a record as the facts have them: side, kind, day, agreement, and a yes or no, each decided by one match on the
 // byte, and the number of each case. Refuses nothing: a byte outside its list has a fixed reading here, and the tests of `refusals`
 // see it before anyone uses that reading.
+#![tactic(auto)]
+
 ghost use Rattle.std.specs.Prelude.{◌≡◌, true};
 ghost use Rattle.wire.specs.Tests.{in_range};
 ghost use Rattle.codes.specs.Codes.{side_of, side_number, kind_of, kind_number, day_of, day_number, agreement_of, agreement_number, flag_of, flag_number};

@@ -1,6 +1,8 @@
 // The counter for other programs: one function, in C's calling form (include/desk.h declares it). It stands apart from `desk`, in a library of its own,
 // so that the code that rules cases is compiled as if nobody explained them. It passes its callee's promise on, and asks nothing beyond what its
 // types say.
+#![tactic(auto)]
+
 ghost use Rattle.std.specs.Prelude.{◌≡◌, length};
 ghost use Rattle.wire.specs.Laid.{laid};
 ghost use Rattle.explanation.specs.Explained.{explained_of};

@@ -1,4 +1,6 @@
 // A sheet cut into its cases, each as long as its head says (RULE R1.3, R3.10). Whoever walks over a sheet asks here how long the next case is.
+#![tactic(auto)]
+
 ghost use Rattle.std.specs.Prelude.{◌≡◌, ◌+◌, ◌≤◌, length, drop};
 ghost use Rattle.cut.specs.Cut.{case_length, cases_in, whole, start_of};
 

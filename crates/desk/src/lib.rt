@@ -1,5 +1,7 @@
 // The desk for other programs: seven functions on numbers and byte slices, in C's calling form (include/desk.h declares them). Each passes
 // its callee's promise on in the page's numbers, and asks nothing beyond what its types say.
+#![tactic(auto)]
+
 ghost use Rattle.std.specs.Prelude.{◌≡◌, length};
 ghost use Rattle.wire.specs.Laid.{laid};
 ghost use Rattle.cases.specs.Cases.{refusal_of};

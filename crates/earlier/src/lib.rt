@@ -1,5 +1,7 @@
 // The number of quotes strictly before a trade (RULE R16.20, R16.21): found by halves, since the quotes are in time order, and a number that is
 // brought held against two of them.
+#![tactic(auto)]
+
 ghost use Rattle.std.specs.Prelude.{◌≡◌, true, ◌/◌, ◌≤◌, length};
 ghost use Rattle.quotes.specs.Quotes.{posted_in, rising};
 ghost use Rattle.earlier.specs.Earlier.{count_of, number_ok, quotes_before_of};

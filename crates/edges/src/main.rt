@@ -1,5 +1,7 @@
 // Records brought to the desk, good and damaged, and what they get: run and compared with `stdout`, which was
 // worked out by hand from document 01 (docs/RULE.md, docs/RULEBOOK.md). Each line names the record and gives its number, 0 where it is accepted.
+#![tactic(auto)]
+
 ghost use Rattle.std.specs.Prelude.{◌≤◌, length};
 
 use facts::{Contracts, Facts, Mills};

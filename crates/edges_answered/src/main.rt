@@ -1,6 +1,8 @@
 // Answers and sheets brought out of the desk byte by byte: run and compared with `stdout`, which was worked out by hand from document 01
 // (docs/RULE.md). A whole answer is the ruling and the two notices in hex; a refused call says whether its buffer is as it was; a sheet's line
 // gives its number, the bytes written, and the cases ruled and refused. The record that each starts from is `specimen`'s.
+#![tactic(auto)]
+
 use libc::STDOUT_FILENO;
 use specimen::{byte, good, good_two, word};
 

@@ -2,6 +2,8 @@
 // which was worked out by hand from docs/RULE.md; `stdin` has the cases as rows, and with them the working. A ruled case's line gives its number
 // (0), outcome, reason, TP, new price, the contracts adjusted, nullified and standing, and the origin of TP; 4294967295 is none. A refused one's
 // says whether the buffer is as it was. The records that each starts from are `specimen`'s. The largest sheets stand in `edges_answered`.
+#![tactic(auto)]
+
 ghost use Rattle.std.specs.Prelude.{◌≤◌, length};
 
 use facts::Facts;

@@ -1,6 +1,8 @@
 // Cases brought to the desk, and how they are ruled: run and compared with `stdout`, which was worked out by hand from
 // document 01 (docs/RULE.md). A ruled case's line gives its number (0), outcome, reason, TP, new price, the contracts adjusted, nullified and
 // standing, and the origin of TP; 4294967295 is none. The record that each starts from is `specimen`'s.
+#![tactic(auto)]
+
 use libc::STDOUT_FILENO;
 use specimen::{byte, good, word};
 

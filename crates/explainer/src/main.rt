@@ -1,6 +1,8 @@
 // The explainer: reads on file descriptor 3 the four bytes of a trade number, or none where every case is asked for, and a sheet on standard input, and
 // writes the explanation, piece by piece. The buffer of the sheet is longer than the longest sheet, so that a longer input, however long, is seen as
 // one of 65,536 bytes and refused as every sheet above 52,800 is.
+#![tactic(auto)]
+
 use explanation::Wanted;
 
 // `read_full` also stops where a read fails. At a true end another read gives nothing; where it does not, what was read is not whole, and a part

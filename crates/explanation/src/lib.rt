@@ -1,5 +1,7 @@
 // The explanation of a case and of a sheet, for the desk alone: what each step of a ruling found, or the field that broke a test, and what to be
 // careful of. It refuses nothing, and asks nothing: the buffer holds the longest explanation of a case.
+#![tactic(auto)]
+
 ghost use Rattle.std.specs.Prelude.{◌≡◌, ◌+◌, ◌≤◌, length, take};
 ghost use Rattle.wire.specs.Laid.{laid};
 ghost use Rattle.text.specs.Text.{laid_at};

@@ -1,5 +1,7 @@
 // What a case is: its units, its parties, its facts in groups; the numbers by which the record spells prices and times that
 // may be none; limits. Refuses nothing. The numbers of the coded bytes stand in `codes`.
+#![tactic(auto)]
+
 ghost use Rattle.std.specs.Prelude.{◌≡◌};
 ghost use Rattle.facts.specs.Numbers.{price_of, price_number, moment_of, moment_number};
 ghost use Rattle.facts.specs.Limits.{violates};

@@ -1,5 +1,7 @@
 // The tests on facts behind "Numbers given back instead of a ruling" (RULE R3.4 to R3.9), in the table's order; 4 also of a record's bytes. Their
 // definitions stand in `refusals`, beside those of 1 to 3; the code of 5 and 6 in `prices`. The first that fails is told.
+#![tactic(auto)]
+
 ghost use Rattle.std.specs.Prelude.{◌≡◌, ◌&&◌, ◌+◌, ◌≤◌, length};
 ghost use Rattle.wire.specs.Numbers.{elements};
 ghost use Rattle.refusals.specs.Tests.{code_byte_ok, code_ok, codes_ok, moment_ok, filed_ok, times_ok, limits_ok, agreement_ok, later_fault_of, fault_of};

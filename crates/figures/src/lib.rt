@@ -1,5 +1,7 @@
 // A ruling in the page's numbers: what the record, the notices and the printed line have in common. Nothing is refused here: every
 // ruling has its figures, and whoever has a case judged has tested its length.
+#![tactic(auto)]
+
 ghost use Rattle.std.specs.Prelude.{◌≡◌, ◌≤◌, length};
 ghost use Rattle.record.specs.Record.{facts_of};
 ghost use Rattle.ruling.specs.Ruling.{ruling_of};

@@ -1,5 +1,7 @@
 // What is said of a sheet that is filled, as bytes in a lent buffer: a line for each case that is left as it was and a last line with the counts, or
 // the one line that refuses the whole. Nothing is asked: the buffer holds the longest text, 600 lines of 118 bytes and the counts.
+#![tactic(auto)]
+
 ghost use Rattle.std.specs.Prelude.{◌≡◌, ◌*◌, ◌≤◌, length, take};
 ghost use Rattle.wire.specs.Laid.{laid, row};
 ghost use Rattle.sheet.specs.Sheet.{cases_in};

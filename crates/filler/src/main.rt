@@ -1,6 +1,7 @@
 // The filler: reads the exchanges' quotes on file descriptor 3 and a sheet on standard input, has the sheet filled, and writes it. What became of each
 // case goes to standard error. Both buffers are longer than what they are for, so that a longer input, however long, is seen as one of 65,536 bytes
 // and refused as all quotes above 56,000 and every sheet above 52,800 are.
+#![tactic(auto)]
 
 // Whether an input was read to its end. `read_full` also stops where a read fails. At a true end another read gives nothing; where it does not, a part
 // of the input must not be taken for all of it.

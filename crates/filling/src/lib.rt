@@ -1,6 +1,8 @@
 // A case filled with the best bid and offer at its own execution time (RULE R16.10 to R16.12, R16.24): bytes 20 to 35 of the record, and no other.
 // Refused with 1 to 9 as in reading, then with 20 to 22 (23 cannot arise: an accepted case's execution time is a time of day; nor can 28: the number of
 // quotes before it is found here); a refused call writes nothing.
+#![tactic(auto)]
+
 ghost use Rattle.std.specs.Prelude.{◌≡◌, ◌≤◌, length};
 ghost use Rattle.filling.specs.Filling.{filled, filling_of, tried_of};
 

@@ -1,6 +1,8 @@
 // A sheet filled from the exchanges' quotes: each case with the best bid and offer at its own execution time, as by itself, and one that is refused
 // stays as it was. Refused whole with 10 (the sheet is no row of whole cases, or more than 52,800 bytes), then with 20 to 22 (the quotes), and
 // then nothing is written.
+#![tactic(auto)]
+
 ghost use Rattle.std.specs.Prelude.{◌≡◌};
 ghost use Rattle.fillings.specs.Fillings.{fill_sheet_refusal_of, fill_sheet_of};
 

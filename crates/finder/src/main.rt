@@ -1,6 +1,7 @@
 // The finder: reads a time on file descriptor 3 and quotes on standard input, has the text made that says where the best prices before that time
 // were born, and writes it. The buffer of the quotes is longer than the longest list of them, so that a longer input, however long, is seen as one
 // of 65,536 bytes and refused as every list above 56,000 is.
+#![tactic(auto)]
 
 // `read_full` also stops where a read fails. At a true end another read gives nothing; where it does not, what was read is not whole, and a part
 // of it must not be answered as if it were.

@@ -1,6 +1,8 @@
 // The form of a case record: each kind has its length, and says behind the 88 bytes that all kinds have what it says besides (RULE R2.6.88).
 // A further kind is a pair and a case more in each function here. Refuses nothing: the tests of `refusals` hold length and head against
 // the pairs that stand here.
+#![tactic(auto)]
+
 ghost use Rattle.std.specs.Prelude.{◌≡◌, ◌≤◌, length};
 ghost use Rattle.wire.specs.Numbers.{stored};
 ghost use Rattle.forms.specs.Heads.{is_length, known};

@@ -1,4 +1,6 @@
 // The two halves of a quote, its bid and its offer: which of two prices is the better one, and the sizes at a price (RULE R16.5 to R16.8).
+#![tactic(auto)]
+
 ghost use Rattle.std.specs.Prelude.{◌≡◌, min};
 ghost use Rattle.halves.specs.Halves.{half_of, winner, better, size_if};
 

@@ -1,5 +1,7 @@
 // The printer's lines: a ruled case, a refused one, the header, the end, a sheet refused whole. Each is written over the start of a lent
 // buffer, every byte after it stays, and the answer is its length. Nothing is refused here: whoever asks has tested the room.
+#![tactic(auto)]
+
 ghost use Rattle.std.specs.Prelude.{◌≡◌, ◌+◌, ◌≤◌, length};
 ghost use Rattle.wire.specs.Laid.{laid};
 ghost use Rattle.facts.specs.Numbers.{price_of};

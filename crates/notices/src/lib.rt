@@ -1,5 +1,7 @@
 // What goes out: the ruling record and the two notices, written as 96 bytes, each field straight to its place in the lent buffer. Nothing is
 // refused here: whoever asks has tested the room.
+#![tactic(auto)]
+
 ghost use Rattle.std.specs.Prelude.{◌≡◌, ◌≤◌, length};
 ghost use Rattle.wire.specs.Numbers.{bytes, elements, stored};
 ghost use Rattle.wire.specs.Laid.{laid};

@@ -1,4 +1,6 @@
 // The parties by their kinds, and which of two is the one in error. Refuses nothing: every kind has an answer.
+#![tactic(auto)]
+
 ghost use Rattle.std.specs.Prelude.{◌≡◌};
 ghost use Rattle.codes.specs.Codes.{kind_number};
 ghost use Rattle.parties.specs.Parties.{is_customer, is_maker, by_side, any_customer};

@@ -1,5 +1,7 @@
 // The words of a refusal, for people: `REFUSED`, the number and what it stands for. They go into a lent buffer from a place on, every other byte
 // stays, and the answer is the place after them. Nothing is refused here: whoever asks has tested the room.
+#![tactic(auto)]
+
 ghost use Rattle.std.specs.Prelude.{◌≡◌, ◌+◌, ◌≤◌, length};
 ghost use Rattle.text.specs.Text.{laid_at};
 ghost use Rattle.phrases.specs.Phrases.{refusal_words, refusal_text};

@@ -1,5 +1,7 @@
 // The tests 5 and 6 (RULE R3.5, R3.6): prices within their range or a permitted none; contracts, and sizes that fit their quotes. Their
 // definitions stand in `refusals`, beside those of the other tests, and `faults` tells the first that fails.
+#![tactic(auto)]
+
 ghost use Rattle.std.specs.Prelude.{◌≡◌};
 ghost use Rattle.refusals.specs.Tests.{mills_ok, price_ok, quotes_priced, differential_ok, prices_ok, quote_ok, counts_ok};
 

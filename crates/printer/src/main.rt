@@ -1,5 +1,7 @@
 // The printer: reads a sheet on standard input, and writes its report, piece by piece. The buffer is one byte longer than the longest sheet, so
 // that a longer input, however long, is seen as one of 52,801 bytes and refused as every sheet above 52,800 is. No piece is longer than 96 bytes.
+#![tactic(auto)]
+
 ghost use Rattle.io.specs.Counts.{IsPrefixLen};
 
 // What was read: how many bytes, and whether a read failed. Then a part of the input must not be ruled as if it were all of it.

@@ -1,5 +1,7 @@
 // The exchanges' quotes: records of kind 32, 28 bytes each, and the tests on a list of them (RULE R16.1, R16.2). A list is refused with 20 to 22
 // and a trade time with 23, each tested over the whole list before the next.
+#![tactic(auto)]
+
 ghost use Rattle.std.specs.Prelude.{◌≡◌, ◌+◌, ◌*◌, ◌≤◌, length};
 ghost use Rattle.quotes.specs.Quotes.{quote_of, posted_at, whole_quotes, is_quote, side_ok, fields_ok, record_ok, list_fault_of, quotes_refusal_of};
 

@@ -1,5 +1,7 @@
 // The reasons by which a ruling is told, and the outcome that each has (RULE R10.1.8). Refuses nothing: a number that is no reason
 // has an outcome that is none.
+#![tactic(auto)]
+
 ghost use Rattle.std.specs.Prelude.{◌≡◌};
 ghost use Rattle.reasons.specs.Reasons.{reason_outcome};
 

@@ -1,5 +1,7 @@
 // The bytes of a case record: the facts that they say, all of them or a group at a time, so that a step of a ruling reads what it needs
 // and no more. Nothing is refused here: whoever asks has tested the length (`cases`), and the tests of `refusals` judge the bytes and the facts.
+#![tactic(auto)]
+
 ghost use Rattle.std.specs.Prelude.{◌≡◌, ◌+◌, ◌≤◌, ◌<◌, length};
 ghost use Rattle.wire.specs.Numbers.{elements};
 ghost use Rattle.record.specs.Record.{party_at, trade_of, market_of, request_of, settlement_of, facts_of};

@@ -1,5 +1,7 @@
 // The tests behind "Numbers given back instead of a ruling" (RULE R3), in the table's order.
 // Here the tests on bytes, 1 to 3; `faults` runs those on facts, 4 to 9, by the definitions that stand here beside each other.
+#![tactic(auto)]
+
 ghost use Rattle.std.specs.Prelude.{◌≡◌, ◌≤◌, length};
 ghost use Rattle.wire.specs.Tests.{pick, in_range};
 ghost use Rattle.refusals.specs.Tests.{head_ok, zeros_ok, lists_ok, coded_ok, head_fault_of};

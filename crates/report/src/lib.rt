@@ -1,6 +1,8 @@
 // The report of a sheet: what the printer writes, as bytes in a lent buffer. A row of whole cases, 52,800 bytes at most, has the header, a line for
 // each case and END; any other has the one line that refuses it, with 10. Nothing is asked: the buffer holds the longest report, or, where
 // the report is taken piece by piece, the longest line.
+#![tactic(auto)]
+
 ghost use Rattle.std.specs.Prelude.{◌≡◌, ◌++◌, ◌+◌, ◌*◌, ◌≤◌, length, take};
 ghost use Rattle.wire.specs.Laid.{laid, row};
 ghost use Rattle.cases.specs.Cases.{reading_of};

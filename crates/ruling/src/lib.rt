@@ -2,6 +2,8 @@
 // reads from the record the groups of facts that it needs: handed down by value, all facts would lie on the stack until the last step.
 // Refuses nothing: a record that was not accepted has a ruling too, and nobody asks for it; whoever asks has tested the length.
 // Contracts are subtracted here and nowhere else; besides, only the tests (`prices`) compare them, with their bounds.
+#![tactic(auto)]
+
 ghost use Rattle.std.specs.Prelude.{◌≡◌, ◌≤◌, length};
 ghost use Rattle.record.specs.Record.{facts_of};
 ghost use Rattle.ruling.specs.Counts.{covered_by, covered, rest_of};

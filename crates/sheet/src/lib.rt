@@ -1,6 +1,8 @@
 // A sheet: a row of cases, each ruled as by itself, 96 bytes of answer for a ruled case and 12 for a refused one.
 // Refused whole with 10 (no row of whole cases of known kinds, or more than 52,800 bytes) or 11 (room for less than
 // 96 bytes a case), and then nothing is written.
+#![tactic(auto)]
+
 ghost use Rattle.std.specs.Prelude.{◌≡◌, ◌≤◌, length};
 ghost use Rattle.wire.specs.Laid.{laid};
 ghost use Rattle.cases.specs.Cases.{reading_of};

@@ -1,5 +1,7 @@
 // A good case record of each kind, and that of kind 1 with one place changed: what the programs that run the edges bring to the desk, and
 // what shows that the tests let something through (`refusals`, `demands`).
+#![tactic(auto)]
+
 ghost use Rattle.std.specs.Prelude.{◌≡◌, ◌+◌, ◌≤◌, ◌<◌, set};
 ghost use Rattle.wire.specs.Numbers.{bytes, stored};
 ghost use Rattle.specimen.specs.Good.{good_case, good_two};

@@ -1,5 +1,7 @@
 // Clock times and dollars as people at the counter write them: a time read, a time and a price spelt. What is spelt goes into a lent buffer
 // from a place on, every other byte stays, and the answer is the place after it: whoever asks has tested the room. Reading asks nothing.
+#![tactic(auto)]
+
 ghost use Rattle.std.specs.Prelude.{◌≡◌, ◌+◌, ◌-◌, ◌*◌, ◌≤◌, min, length};
 ghost use Rattle.text.specs.Text.{laid_at};
 ghost use Rattle.spelling.specs.Times.{two_digits, clock_of, clock_in, count_in, time_in, clock_text, time_text};

@@ -1,6 +1,8 @@
 // Where the best prices were born, for people: the best bid and offer of the quotes before a second, and under each the exchanges whose last
 // quote is at that price; and how many quotes were read. Nothing is asked: any bytes as quotes and any word as a time have a text, and the buffer
 // holds the longest.
+#![tactic(auto)]
+
 ghost use Rattle.std.specs.Prelude.{◌≡◌, ◌+◌, ◌≤◌, length, take};
 ghost use Rattle.wire.specs.Laid.{laid};
 ghost use Rattle.text.specs.Text.{laid_at};

@@ -1,6 +1,8 @@
 // The rows of a ruled case: what each step found, with the numbers that decided it, the place in the record where each stood, and the paragraph
 // that it was held against. Small functions choose pieces; what is written goes into a lent buffer from a place on, every other byte stays, and the
 // answer is the place after it. Nothing is refused here: whoever asks has tested the room, 1,040 bytes for each row.
+#![tactic(auto)]
+
 ghost use Rattle.std.specs.Prelude.{◌≡◌, ◌+◌, ◌≤◌, length, [], ◌∷◌};
 ghost use Rattle.text.specs.Text.{laid_at};
 ghost use Rattle.wire.specs.Tests.{pick};

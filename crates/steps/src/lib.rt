@@ -1,6 +1,8 @@
 // What each step of a ruling found, as one value: the way and why the earlier ones were shut, TP, the row and how far off, what was
 // agreed and whether it counted, the price tested and the limits. A step that the ruling did not reach is not in the value.
 // Refuses nothing: facts that were not accepted have steps too.
+#![tactic(auto)]
+
 ghost use Rattle.std.specs.Prelude.{◌≡◌, ◌-◌, min};
 ghost use Rattle.wire.specs.Tests.{pick};
 ghost use Rattle.facts.specs.Numbers.{mills};

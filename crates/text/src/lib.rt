@@ -1,5 +1,7 @@
 // The text of the printer's lines: a number in decimal, a word, a byte, a price or `-`. Each goes into a lent buffer from a place on, every
 // other byte stays, and the answer is the place after it. Nothing is refused here: whoever asks has tested the room.
+#![tactic(auto)]
+
 ghost use Rattle.std.specs.Prelude.{◌≡◌, ◌+◌, ◌≤◌, [], ◌∷◌, length};
 ghost use Rattle.text.specs.Text.{laid_at, decimal_of, price_text};
 

@@ -1,6 +1,8 @@
 // The theoretical price (TP) of a trade and its origin: a quote of the market, with its size, or an official. Refuses nothing: where no one
 // gave a price the answer says so, and the ruling lets the case wait. No price is compared here: TP is one of the three prices, as it stands,
 // and whether the quotes can be trusted is `width`'s to say.
+#![tactic(auto)]
+
 ghost use Rattle.std.specs.Prelude.{◌≡◌};
 ghost use Rattle.facts.specs.Numbers.{price_number};
 ghost use Rattle.theory.specs.Theory.{quote_for, official_source, source_of, trusted_price, theory_of, theory_number, or_else, origin_number, theory_origin, origin_among};

@@ -1,5 +1,6 @@
 // The warner: reads a sheet on standard input, and writes what there is to be careful of in it, case by case. The buffer is longer than the longest
 // sheet, so that a longer input, however long, is seen as one of 65,536 bytes, of which nothing is told, as of every sheet that is refused.
+#![tactic(auto)]
 
 // `read_full` also stops where a read fails. At a true end another read gives nothing; where it does not, what was read is not whole.
 fn ended(fd: i32) -> bool {

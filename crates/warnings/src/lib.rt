@@ -1,5 +1,7 @@
 // The warnings of a sheet: what is told beside its printed rulings, case by case, of prices that may be turned. It refuses nothing, and asks nothing:
 // the buffer holds the longest warning of a case.
+#![tactic(auto)]
+
 ghost use Rattle.std.specs.Prelude.{◌≡◌, ◌≤◌, length, take};
 ghost use Rattle.wire.specs.Laid.{laid};
 ghost use Rattle.cut.specs.Cut.{IsCase};

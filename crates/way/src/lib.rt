@@ -2,6 +2,8 @@
 // the day and the flags 45 and 46 of the record; whether a panel has already decided (47) is for the ruling.
 // Refuses nothing: every time has an answer, one that no accepted case holds too.
 // Seconds are compared and summed here and nowhere above.
+#![tactic(auto)]
+
 ghost use Rattle.std.specs.Prelude.{◌≡◌};
 ghost use Rattle.way.specs.Times.{is_trade_date, is_next_day, no_later, within};
 ghost use Rattle.way.specs.Way.{obvious_time, obvious_open, opening_open, catastrophic_open, way_of};

@@ -1,5 +1,7 @@
 // Whether the market's quotes are too wide to trust: best bid and best offer at least twice the permitted differential apart (RULE R5.6).
 // Refuses nothing. Mills are summed here, in a width in which no sum of them wraps.
+#![tactic(auto)]
+
 ghost use Rattle.std.specs.Prelude.{◌≡◌};
 ghost use Rattle.width.specs.Width.{apart, wide};
 

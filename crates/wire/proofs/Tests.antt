@@ -7,7 +7,7 @@ use mathlib.Core.List.{List, [], ◌∷◌, ◌++◌}
 use lib.Dec.{T, leb, eqb, leb→le, T_not}
 use native.Mathlib.Omega.{arith}
 use borrow.Author.Tests.{le-leb, lt-leb, leb-true, eqb-true, eqb-false}
-use borrow.Author.Rules.{zero≤}
+use Prim.Native.Nat.{zero-le}
 use Rattle.wire.specs.Tests.{pick, in_range, first_failed}
 
 -- ---- a range, in the form that a `match` with ranges leaves: `lo ≤ n` where a test was left, `n < suc hi` where one was taken
@@ -31,7 +31,7 @@ pub le_lit : (n a b : ℕ) → a ≤ n → T (leb b a) → b ≤ n
 le_lit n a b h t = le_trans (leb→le b a t) h
 
 -- `search ranges` closes each return of a `match` with ranges
-pub ruleset ranges = (tt, zero≤, range_in, range_low, range_high, lt_lit, le_lit)
+pub ruleset ranges = (tt, zero-le, range_in, range_low, range_high, lt_lit, le_lit)
 
 -- ---- tests taken apart
 

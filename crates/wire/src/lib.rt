@@ -1,5 +1,7 @@
 // Numbers in byte slices, lowest byte first, as the page's records have them (RULE R2.1).
 // Each function asks for room at its place: the records above test their length once, and no byte is tested again.
+#![tactic(auto)]
+
 ghost use Rattle.std.specs.Prelude.{◌≡◌, [], ◌∷◌, ◌+◌, ◌≤◌, length};
 ghost use Rattle.wire.specs.Numbers.{joined, number_at, bytes, stored};
 

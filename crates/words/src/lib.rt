@@ -1,6 +1,8 @@
 // The words of an explanation. A row is ten pieces, each a phrase by its number, a value, and the place in the record where the value stands:
 // branches choose pieces, and the writing has none. What is written goes into a lent buffer from a place on, every other byte stays, and the
 // answer is the place after it. Nothing is refused here: whoever asks has tested the room.
+#![tactic(auto)]
+
 ghost use Rattle.std.specs.Prelude.{◌≡◌, ◌+◌, ◌≤◌, length};
 ghost use Rattle.text.specs.Text.{laid_at};
 ghost use Rattle.words.specs.Phrases.{phrases, start_of, all_phrases, phrase_of, phrase_count};

@@ -1,5 +1,7 @@
 // The bytes that say facts, written over the start of a lent buffer, a stretch of the record after the other, and what its form adds last.
 // Nothing is refused here: `cases` has tested the room and the facts. What the bytes are is defined in `record`, beside what they say.
+#![tactic(auto)]
+
 ghost use Rattle.std.specs.Prelude.{◌≡◌, ◌+◌, ◌≤◌, length};
 ghost use Rattle.wire.specs.Numbers.{stored};
 ghost use Rattle.wire.specs.Laid.{laid};

@@ -1,0 +1,16 @@
+use borrow.Author.Tests.{eq-eqb, ne_eqb}
+use Rattle.codes.specs.Codes.{agreement_of, agreement_number}
+use Rattle.codes.proofs.Codes.{agreement_number_lem, spelled_if}
+use Rattle.codes.proofs.agreement_of.Goals as goal
+
+pub returns-in-0 : goal.returns-in-0
+unfolding agreement_of
+returns-in-0 c = spelled_if agreement_number (agreement_number_lem _) (simp (eq-eqb _ _ c.in-0.is))
+
+pub returns-in-1 : goal.returns-in-1
+unfolding agreement_of
+returns-in-1 c = spelled_if agreement_number (agreement_number_lem _) (rw c.in-1.is)
+
+pub returns-in_default : goal.returns-in_default
+unfolding agreement_of
+returns-in_default c = spelled_if agreement_number (agreement_number_lem _) (simp (ne_eqb _ _ c.in_default.in_default-own.rest.0.1, ne_eqb _ _ c.in_default.in_default-own.rest.1))

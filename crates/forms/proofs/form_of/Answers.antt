@@ -1,0 +1,16 @@
+use mathlib.Core.Path.{ap, ◌∙◌}
+use Prim.Native.Nat.{ℕ}
+use borrow.Author.Tests.{lt-ltb, le-ltb}
+use borrow.Author.Rules.{rules}
+use Rattle.facts.specs.Numbers.{mills}
+use Rattle.forms.specs.Words.{Two}
+use Rattle.forms.specs.Forms.{form_of}
+use Rattle.forms.proofs.form_of.Goals as goal
+
+pub returns-then-s-lt92 : goal.returns-then-s-lt92
+unfolding form_of
+returns-then-s-lt92 c = simp (lt-ltb _ _ c.if-s-lt92.true)
+
+pub returns : goal.returns
+unfolding form_of
+returns c = simp (le-ltb _ _ c.if-s-lt92.false, c.read_u32.ensures)
