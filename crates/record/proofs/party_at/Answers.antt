@@ -1,0 +1,10 @@
+use Rattle.record.proofs.Read.{party_read}
+use borrow.Author.Rules.{rules}
+use Rattle.record.proofs.party_at.Goals as goal
+
+pub returns : goal.returns
+returns c = party_read _ _ _
+    c.code_at-code.ensures
+    c.read_u32.ensures
+    c.price_of-limit.ensures.0
+    c.kind_of-kind.ensures.0

@@ -1,0 +1,7 @@
+use Rattle.record.specs.Record.{party_at}
+use borrow.Author.Rules.{rules}
+use Rattle.record.proofs.seller_kind.Goals as goal
+
+pub returns : goal.returns
+unfolding party_at
+returns c = c.kind_of.ensures.0

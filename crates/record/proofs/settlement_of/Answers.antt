@@ -1,0 +1,12 @@
+use Rattle.record.proofs.Read.{settlement_read}
+use borrow.Author.Rules.{rules}
+use Rattle.record.proofs.settlement_of.Goals as goal
+
+pub returns : goal.returns
+returns c = settlement_read _
+    c.agreement_of.ensures.0
+    c.read_u32.ensures
+    c.price_of.ensures.0
+    c.read_u32-2.ensures
+    c.read_u32-3.ensures
+    c.moment_of.ensures.0
