@@ -17,14 +17,14 @@ use facts::{Kind, Mills, Party, Price, Side};
 use way::Way;
 
 // A new price and the reason for it.
-#[derive(Drop)]
+#[derive(Clone, Copy)]
 pub struct Change {
     pub reason: u8,
     pub price: Mills,
 }
 
 // The act: a new price, or the reason for which the trade is nullified or has no relief.
-#[derive(Drop)]
+#[derive(Clone, Copy)]
 pub enum Act {
     Adjust(Change),
     Nullify(u8),

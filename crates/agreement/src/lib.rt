@@ -11,7 +11,7 @@ use facts::{Agreement, Mills, Moment, Price, Seconds, Settlement};
 use way::Way;
 
 // What a ruling makes of an agreement.
-#[derive(Drop)]
+#[derive(Clone, Copy)]
 pub enum Heeded {
     Ignored,
     Repriced(Mills),

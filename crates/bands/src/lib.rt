@@ -11,7 +11,7 @@ use facts::{Mills, Side};
 
 // A row: the highest TP that it serves, the least error that is obvious, the least that is catastrophic,
 // and how far a catastrophic error moves TP.
-#[derive(Drop)]
+#[derive(Clone, Copy)]
 pub struct Band {
     pub top: Mills,
     pub obvious: Mills,

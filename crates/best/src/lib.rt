@@ -17,14 +17,14 @@ use halves::Half;
 use quotes::Posted;
 
 // What an exchange last sent: nothing, or a quote.
-#[derive(Drop)]
+#[derive(Clone, Copy)]
 pub enum Last {
     Silent,
     Sent(Posted),
 }
 
 // What a lookup finds: the number where it was refused, beside nothing; else 0, the best bid and the best offer.
-#[derive(Drop)]
+#[derive(Clone, Copy)]
 pub struct Found {
     pub refusal: u8,
     pub bid: Quote,
@@ -32,7 +32,7 @@ pub struct Found {
 }
 
 // What a lookup answers: what is found, and how many quotes were read for it; beside a refusal 0.
-#[derive(Drop)]
+#[derive(Clone, Copy)]
 pub struct Looked {
     pub found: Found,
     pub examined: usize,
@@ -59,7 +59,7 @@ pub fn last_before(quotes: &[u8], trade_time: u32, exchange: u32) -> Last
 // ---- the walk back
 
 // The place of each exchange's last quote so far: 0 for none, k + 1 for record k; and how many exchanges are known.
-#[derive(Drop)]
+#[derive(Clone, Copy)]
 struct Walk {
     last: [usize; 16],
     known: usize,
@@ -82,7 +82,7 @@ fn meet(w: Walk, index: usize, place: usize) -> Walk
 }
 
 // Where the walk ends: the places of the sixteen last quotes, and how many quotes were read.
-#[derive(Drop)]
+#[derive(Clone, Copy)]
 struct Back {
     last: [usize; 16],
     examined: usize,

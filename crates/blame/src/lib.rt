@@ -12,7 +12,7 @@ ghost use Rattle.blame.specs.Fields.{field_ok, keep, or_later, within, or_none, 
 use facts::{Agreement, Day, Price};
 
 // The fields of the record, as the page's table has them (RULE R2.6); the two stretches of zeros share a name, and so do the bytes of a code.
-#[derive(Drop)]
+#[derive(Clone, Copy)]
 pub enum FieldName {
     CaseLength,
     HeadLength,
@@ -46,7 +46,7 @@ pub enum FieldName {
 }
 
 // How a field's numbers are told: a bare number, a count, mills, a time of day, seconds after notice, a letter.
-#[derive(Drop)]
+#[derive(Clone, Copy)]
 pub enum Measure {
     Plain,
     Counted,
@@ -57,7 +57,7 @@ pub enum Measure {
 }
 
 // What else the bounds came from: nothing; the length of the case; the bid; the offer; the execution time; the execution price; the agreement.
-#[derive(Drop)]
+#[derive(Clone, Copy)]
 pub enum Because {
     NoMatter,
     TheCase,
@@ -70,7 +70,7 @@ pub enum Because {
 
 // A field and its test: the number in its `width` bytes from `at` on, which is to be low to high, or low2 to high2. A range of 1 to 0 holds
 // nothing. The length of the case has no place: its width is 0.
-#[derive(Drop)]
+#[derive(Clone, Copy)]
 pub struct Field {
     pub name: FieldName,
     pub test: u8,
@@ -86,14 +86,14 @@ pub struct Field {
 }
 
 // Every field in order, or the first that is not.
-#[derive(Drop)]
+#[derive(Clone, Copy)]
 pub enum Blame {
     Sound,
     Bad(Field),
 }
 
 // Two ranges, as a field has them.
-#[derive(Drop)]
+#[derive(Clone, Copy)]
 struct Bounds {
     low: u32,
     high: u32,

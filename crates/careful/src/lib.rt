@@ -10,7 +10,7 @@ ghost use Rattle.careful.specs.Careful.{turned_at, distance, warning_at, mislead
 use facts::Mills;
 
 // The price as it stands, the price that its bytes are high byte first, the execution price, and the first of the four bytes.
-#[derive(Drop)]
+#[derive(Clone, Copy)]
 pub struct Warning {
     pub stands: Mills,
     pub turned: Mills,
@@ -18,14 +18,14 @@ pub struct Warning {
     pub at: u8,
 }
 
-#[derive(Drop)]
+#[derive(Clone, Copy)]
 pub enum Caution {
     Fine,
     Careful(Warning),
 }
 
 // One for each price that a record holds against its execution: the quotes, the official's price, the limits.
-#[derive(Drop)]
+#[derive(Clone, Copy)]
 pub struct Cautions {
     pub bid: Caution,
     pub offer: Caution,

@@ -16,7 +16,7 @@ use facts::{
 };
 
 // The facts where refusal is 0; otherwise the number of the first test that failed, beside fixed facts that nobody uses.
-#[derive(Drop)]
+#[derive(Clone, Copy)]
 pub struct Reading {
     pub refusal: u8,
     pub facts: Facts,

@@ -40,7 +40,7 @@ pub fn said_length(s: &[u8], from: usize) -> usize
 }
 
 // Whether a sheet is cases to its end, and how many there are before what is left.
-#[derive(Drop)]
+#[derive(Clone, Copy)]
 pub struct Count {
     pub whole: bool,
     pub cases: usize,

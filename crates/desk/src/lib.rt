@@ -17,7 +17,7 @@ use best::Looked;
 
 // What became of a sheet: the number where it was refused whole, else 0; the bytes written; the cases ruled and refused.
 #[repr(C)]
-#[derive(Drop)]
+#[derive(Clone, Copy)]
 pub struct DeskSheet {
     pub refusal: u64,
     pub written: u64,
@@ -28,7 +28,7 @@ pub struct DeskSheet {
 // What a lookup answers: the number where it was refused, else 0; bid and offer in mills, 4,294,967,295 for none, and their sizes; how many quotes were
 // read.
 #[repr(C)]
-#[derive(Drop)]
+#[derive(Clone, Copy)]
 pub struct DeskBest {
     pub refusal: u64,
     pub bid: u64,

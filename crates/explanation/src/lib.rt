@@ -13,7 +13,7 @@ ghost use Rattle.explanation.specs.Explained.{told_rows, explained_rows, explain
 ghost use Rattle.explanation.specs.Pieces.{desk_alone, wanted, indexed, case_piece, explain_piece, explained_piece};
 
 // Which cases are asked for: every one, or those with a trade number.
-#[derive(Drop)]
+#[derive(Clone, Copy)]
 pub enum Wanted {
     Any,
     Trade(u32),

@@ -8,26 +8,26 @@ ghost use Rattle.facts.specs.Limits.{violates};
 
 // ---- the three units: none is ever added to another
 
-#[derive(Drop)]
+#[derive(Clone, Copy)]
 pub struct Mills(pub u32);
 
-#[derive(Drop)]
+#[derive(Clone, Copy)]
 pub struct Contracts(pub u32);
 
-#[derive(Drop)]
+#[derive(Clone, Copy)]
 pub struct Seconds(pub u32);
 
 // ---- what may be none
 
 // A price, or none.
-#[derive(Drop)]
+#[derive(Clone, Copy)]
 pub enum Price {
     At(Mills),
     None,
 }
 
 // Seconds after notice, or none.
-#[derive(Drop)]
+#[derive(Clone, Copy)]
 pub enum Moment {
     After(Seconds),
     Never,
@@ -36,13 +36,13 @@ pub enum Moment {
 // ---- what the coded bytes say
 
 // The side in error.
-#[derive(Drop)]
+#[derive(Clone, Copy)]
 pub enum Side {
     Buy,
     Sell,
 }
 
-#[derive(Drop)]
+#[derive(Clone, Copy)]
 pub enum Kind {
     Customer,
     MarketMaker,
@@ -50,14 +50,14 @@ pub enum Kind {
 }
 
 // The filing day.
-#[derive(Drop)]
+#[derive(Clone, Copy)]
 pub enum Day {
     TradeDate,
     NextDay,
     Later,
 }
 
-#[derive(Drop)]
+#[derive(Clone, Copy)]
 pub enum Agreement {
     NotMade,
     OnPrice,
@@ -67,21 +67,21 @@ pub enum Agreement {
 // ---- the facts, in groups
 
 // The form of the record: its kind, with what that kind says besides what every kind says (`forms`).
-#[derive(Drop)]
+#[derive(Clone, Copy)]
 pub enum Form {
     One,
     // With the permitted differential.
     Two(Mills),
 }
 
-#[derive(Drop)]
+#[derive(Clone, Copy)]
 pub struct Party {
     pub code: [u8; 4],
     pub limit: Price,
     pub kind: Kind,
 }
 
-#[derive(Drop)]
+#[derive(Clone, Copy)]
 pub struct Trade {
     pub number: u32,
     pub price: Mills,
@@ -89,20 +89,20 @@ pub struct Trade {
     pub executed: Seconds,
 }
 
-#[derive(Drop)]
+#[derive(Clone, Copy)]
 pub struct Quote {
     pub price: Price,
     pub size: Contracts,
 }
 
-#[derive(Drop)]
+#[derive(Clone, Copy)]
 pub struct Market {
     pub bid: Quote,
     pub offer: Quote,
     pub official: Price,
 }
 
-#[derive(Drop)]
+#[derive(Clone, Copy)]
 pub struct Request {
     pub side: Side,
     pub opening: bool,
@@ -114,7 +114,7 @@ pub struct Request {
 
 // What the parties settled after notice. The agreed price stands beside the agreement, so that
 // the two can contradict each other (refusal 9) in facts that are to be written, too.
-#[derive(Drop)]
+#[derive(Clone, Copy)]
 pub struct Settlement {
     pub agreement: Agreement,
     pub agreed: Price,
@@ -122,7 +122,7 @@ pub struct Settlement {
     pub accepted: Moment,
 }
 
-#[derive(Drop)]
+#[derive(Clone, Copy)]
 pub struct Facts {
     pub form: Form,
     pub trade: Trade,

@@ -13,7 +13,7 @@ use ruling::{Counts, Outcome};
 
 // 4,294,967,295 for a price of none; the outcome 0 no relief, 1 adjusted, 2 nullified, 3 waiting; the origin of TP 1 a quote, 2 an official, 0 where
 // TP is none.
-#[derive(Drop)]
+#[derive(Clone, Copy)]
 pub struct Figures {
     pub trade: u32,
     pub outcome: u8,

@@ -10,7 +10,7 @@ ghost use Rattle.fillings.specs.Fillings.{filled_one, filled_in, read_in};
 ghost use Rattle.fill_report.specs.Told.{left_line, told_of, told, count_line, cases_text, owner_word, whole_line, fill_text};
 
 // What has been said: how many bytes, how many cases are filled, and how many quotes were read for them.
-#[derive(Drop)]
+#[derive(Clone, Copy)]
 struct Said {
     bytes: usize,
     filled: usize,

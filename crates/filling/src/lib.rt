@@ -9,7 +9,7 @@ ghost use Rattle.filling.specs.Filling.{filled, filling_of, tried_of};
 use facts::Quote;
 
 // What filling a case answers, and how many quotes are read for it; beside a refusal 0.
-#[derive(Drop)]
+#[derive(Clone, Copy)]
 pub struct Tried {
     pub refusal: u8,
     pub examined: usize,

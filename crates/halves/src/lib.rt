@@ -8,7 +8,7 @@ use facts::{Mills, Price, Quote};
 use quotes::Posted;
 
 // Which half of a quote is asked for.
-#[derive(Drop)]
+#[derive(Clone, Copy)]
 pub enum Half {
     Bid,
     Offer,

@@ -8,7 +8,7 @@ ghost use Rattle.quotes.specs.Quotes.{quote_of, posted_at, whole_quotes, is_quot
 use facts::{Contracts, Quote, Seconds};
 
 // What a record says: an exchange's bid and offer from a second on.
-#[derive(Drop)]
+#[derive(Clone, Copy)]
 pub struct Posted {
     pub exchange: u32,
     pub time: Seconds,

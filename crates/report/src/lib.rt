@@ -13,7 +13,7 @@ ghost use Rattle.report.specs.Report.{case_line, line_of, ruled_text, text_of};
 ghost use Rattle.report.specs.Pieces.{ruled_piece, piece_of};
 
 // What has been printed: how many bytes, and how many cases were ruled.
-#[derive(Drop)]
+#[derive(Clone, Copy)]
 struct Printed {
     bytes: usize,
     ruled: usize,

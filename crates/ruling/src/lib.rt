@@ -17,20 +17,20 @@ use theory::{Origin, Source, Theory};
 use way::{Open, Way};
 
 // How many contracts are adjusted, nullified and left standing.
-#[derive(Drop)]
+#[derive(Clone, Copy)]
 pub struct Counts {
     pub adjusted: Contracts,
     pub nullified: Contracts,
     pub standing: Contracts,
 }
 
-#[derive(Drop)]
+#[derive(Clone, Copy)]
 pub struct Repricing {
     pub price: Mills,
     pub counts: Counts,
 }
 
-#[derive(Drop)]
+#[derive(Clone, Copy)]
 pub enum Outcome {
     NoRelief(Counts),
     Adjusted(Repricing),
@@ -38,7 +38,7 @@ pub enum Outcome {
     Waiting(Counts),
 }
 
-#[derive(Drop)]
+#[derive(Clone, Copy)]
 pub struct Ruling {
     pub trade: u32,
     pub outcome: Outcome,

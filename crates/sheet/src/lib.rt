@@ -13,7 +13,7 @@ use cut::Count;
 
 // What became of a sheet: the number where it was refused whole, with counts of 0; else 0, the bytes written, and how many
 // cases were ruled and refused.
-#[derive(Drop)]
+#[derive(Clone, Copy)]
 pub struct SheetAnswer {
     pub refusal: u8,
     pub written: usize,
@@ -22,7 +22,7 @@ pub struct SheetAnswer {
 }
 
 // What a case adds: the bytes written, and 1 if it was ruled.
-#[derive(Drop)]
+#[derive(Clone, Copy)]
 struct Entry {
     bytes: usize,
     ruled: usize,

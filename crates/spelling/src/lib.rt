@@ -10,7 +10,7 @@ ghost use Rattle.spelling.specs.Dollars.{decimals, mills_text, dollars_text};
 use facts::Price;
 
 // What a word says where a time is asked.
-#[derive(Drop)]
+#[derive(Clone, Copy)]
 pub enum Typed {
     Seconds(u32),
     NoTime,

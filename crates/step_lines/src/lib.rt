@@ -28,7 +28,7 @@ use way::Way;
 use words::{Piece, Place, Value};
 
 // How many contracts an adjustment covers: every one; at most the size of the quote that gave TP; every one, since an official gave it.
-#[derive(Drop)]
+#[derive(Clone, Copy)]
 pub enum Cover {
     Every,
     UpTo(Contracts),

@@ -25,7 +25,7 @@ use way::{Open, Way};
 
 // What the ways ask: the party in error, the flags, when the trade was executed and the request filed, how long that is after the execution,
 // and how long the obvious way is open to this kind of party.
-#[derive(Drop)]
+#[derive(Clone, Copy)]
 pub struct Clock {
     pub side: Side,
     pub kind: Kind,
@@ -40,13 +40,13 @@ pub struct Clock {
 }
 
 // Why the obvious and the opening way were shut.
-#[derive(Drop)]
+#[derive(Clone, Copy)]
 pub struct Shut {
     pub obvious: u8,
     pub opening: u8,
 }
 
-#[derive(Drop)]
+#[derive(Clone, Copy)]
 pub struct AllShut {
     pub obvious: u8,
     pub opening: u8,
@@ -54,7 +54,7 @@ pub struct AllShut {
 }
 
 // The ways tried, up to the first that is open: the obvious, the opening, the catastrophic, or none.
-#[derive(Drop)]
+#[derive(Clone, Copy)]
 pub enum Tried {
     First,
     Second(u8),
@@ -65,7 +65,7 @@ pub enum Tried {
 // ---- the quotes
 
 // Bid, offer and permitted differential; the bid plus twice the differential; whether the offer is at least that.
-#[derive(Drop)]
+#[derive(Clone, Copy)]
 pub struct Gap {
     pub differential: Mills,
     pub bid: Mills,
@@ -75,14 +75,14 @@ pub struct Gap {
 }
 
 // Whether the quotes are too wide to trust: not asked where the record has no differential, or a quote is none.
-#[derive(Drop)]
+#[derive(Clone, Copy)]
 pub enum Spread {
     Unasked,
     Asked(Gap),
 }
 
 // The quote on the side in error and the official's price as they stand.
-#[derive(Drop)]
+#[derive(Clone, Copy)]
 pub struct Looked {
     pub quote: Price,
     pub official: Price,
@@ -93,7 +93,7 @@ pub struct Looked {
 
 // The row of the table, the lowest TP that it serves, the minimum, the lower and the higher of the two prices, how far up the minimum reaches from the lower one,
 // whether that is an error, and by how much the higher price is short of it or over.
-#[derive(Drop)]
+#[derive(Clone, Copy)]
 pub struct Off {
     pub row: Band,
     pub floor: Mills,
@@ -108,7 +108,7 @@ pub struct Off {
 // ---- the act
 
 // A limit that an act may test: whose, the price that is held against it, whether it counts, and whether the price violates it.
-#[derive(Drop)]
+#[derive(Clone, Copy)]
 pub struct Limit {
     pub side: Side,
     pub kind: Kind,
@@ -118,7 +118,7 @@ pub struct Limit {
     pub stopped: bool,
 }
 
-#[derive(Drop)]
+#[derive(Clone, Copy)]
 pub struct Near {
     pub buyer: Kind,
     pub seller: Kind,
@@ -127,13 +127,13 @@ pub struct Near {
     pub price: Mills,
 }
 
-#[derive(Drop)]
+#[derive(Clone, Copy)]
 pub struct Even {
     pub maker: bool,
     pub tested: Limit,
 }
 
-#[derive(Drop)]
+#[derive(Clone, Copy)]
 pub struct Far {
     pub by: Mills,
     pub price: Mills,
@@ -143,7 +143,7 @@ pub struct Far {
     pub timely: bool,
 }
 
-#[derive(Drop)]
+#[derive(Clone, Copy)]
 pub enum Acting {
     OnObvious(Near),
     OnOpening(Even),
@@ -153,14 +153,14 @@ pub enum Acting {
 // ---- agreement
 
 // What ended the case: a price agreed, nullification agreed, or the act.
-#[derive(Drop)]
+#[derive(Clone, Copy)]
 pub enum End {
     PriceCounts(Mills),
     NullifyCounts,
     Acted(Acting),
 }
 
-#[derive(Drop)]
+#[derive(Clone, Copy)]
 pub struct Settled {
     pub terms: Settlement,
     pub customer: bool,
@@ -169,7 +169,7 @@ pub struct Settled {
     pub end: End,
 }
 
-#[derive(Drop)]
+#[derive(Clone, Copy)]
 pub enum AfterError {
     NotOff,
     InError(Settled),
@@ -177,7 +177,7 @@ pub enum AfterError {
 
 // ---- the whole
 
-#[derive(Drop)]
+#[derive(Clone, Copy)]
 pub struct Judged {
     pub way: Way,
     pub looked: Looked,
@@ -186,7 +186,7 @@ pub struct Judged {
     pub after: AfterError,
 }
 
-#[derive(Drop)]
+#[derive(Clone, Copy)]
 pub enum Reached {
     Late,
     Decided,
@@ -194,7 +194,7 @@ pub enum Reached {
     Priced(Judged),
 }
 
-#[derive(Drop)]
+#[derive(Clone, Copy)]
 pub struct Steps {
     pub trade: Trade,
     pub clock: Clock,

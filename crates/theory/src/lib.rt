@@ -11,19 +11,19 @@ use facts::{Contracts, Form, Market, Mills, Price, Quote, Side};
 
 // Who gave TP: a quote, with the size up to which an opening adjustment may cover contracts, or an official, without such a limit. One value
 // says both, so that what is told of the origin and what is covered cannot disagree.
-#[derive(Drop)]
+#[derive(Clone, Copy)]
 pub enum Origin {
     Quoted(Contracts),
     Official,
 }
 
-#[derive(Drop)]
+#[derive(Clone, Copy)]
 pub struct Source {
     pub price: Mills,
     pub origin: Origin,
 }
 
-#[derive(Drop)]
+#[derive(Clone, Copy)]
 pub enum Theory {
     Found(Source),
     Missing,

@@ -10,7 +10,7 @@ ghost use Rattle.way.specs.Way.{obvious_time, obvious_open, opening_open, catast
 
 use facts::{Day, Kind, Request, Seconds};
 
-#[derive(Drop)]
+#[derive(Clone, Copy)]
 pub enum Way {
     Obvious,
     Opening,
@@ -18,7 +18,7 @@ pub enum Way {
 }
 
 // The way that is open, or that none is.
-#[derive(Drop)]
+#[derive(Clone, Copy)]
 pub enum Open {
     By(Way),
     Closed,

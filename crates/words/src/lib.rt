@@ -14,13 +14,13 @@ ghost use Rattle.words.specs.Rows.{index_text};
 use facts::{Agreement, Day, Kind, Moment, Price, Seconds};
 
 // So many bytes of the record from one on; none where a value has no place.
-#[derive(Drop)]
+#[derive(Clone, Copy)]
 pub struct Place {
     pub at: u8,
     pub width: u8,
 }
 
-#[derive(Drop)]
+#[derive(Clone, Copy)]
 pub enum Value {
     Nothing,
     Number(u32),
@@ -35,7 +35,7 @@ pub enum Value {
     Terms(Agreement),
 }
 
-#[derive(Drop)]
+#[derive(Clone, Copy)]
 pub struct Piece {
     pub phrase: u8,
     pub value: Value,

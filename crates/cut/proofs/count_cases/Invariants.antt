@@ -4,8 +4,8 @@ use lib.ListN.{length}
 use Rattle.cut.proofs.Walk.{Counted, counted_start, counted_next, counted_end}
 use Rattle.cut.proofs.count_cases.Given as goal
 
-abbrev pub invariant-loop : goal.invariant-loop
-invariant-loop l = Counted l.sheet l.n l.from l.step
+abbrev pub invariant-loop-step : goal.invariant-loop-step
+invariant-loop-step l = Counted l.sheet l.n l.from l.step
 
-abbrev pub decreases-loop : goal.decreases-loop
-decreases-loop l = length l.sheet - l.from
+abbrev pub decreases-loop-step : goal.decreases-loop-step
+decreases-loop-step l = length l.sheet - l.from

@@ -4,6 +4,3 @@ use Rattle.cut.proofs.length_at.Goals as goal
 
 pub returns : goal.returns
 returns c = length_there _ _ _ c.requires c.case_length.ensures
-
-pub cut::case_length : goal.cut::case_length
-cut::case_length c = ?

@@ -11,21 +11,3 @@ returns c = facts_read _
     c.buyer_of.ensures
     c.seller_of.ensures
     c.settlement_of.ensures
-
-pub record::trade_of : goal.record::trade_of
-record::trade_of c = ?
-
-pub record::market_of : goal.record::market_of
-record::market_of c = ?
-
-pub record::request_of : goal.record::request_of
-record::request_of c = ?
-
-pub record::buyer_of : goal.record::buyer_of
-record::buyer_of c = ?
-
-pub record::seller_of : goal.record::seller_of
-record::seller_of c = ?
-
-pub record::settlement_of : goal.record::settlement_of
-record::settlement_of c = ?

@@ -20,13 +20,10 @@ unfolding head_fault_of
 told s length head two = simp length cc
 
 pub returns-then-not-is_length : goal.returns-then-not-is_length
-returns-then-not-is_length c = untold _ (sym c.is_length.ensures ∙ fails _ c.if-not-is_length.true)
+returns-then-not-is_length c = untold _ (sym c.is_length.ensures ∙ c.if-not-is_length.true)
 
 pub head_ok-requires : goal.head_ok-requires
-head_ok-requires c = has_88 _ (sym c.is_length.ensures ∙ holds _ c.if-not-is_length.false)
+head_ok-requires c = has_88 _ (sym c.is_length.ensures ∙ c.if-not-is_length.false)
 
 pub returns : goal.returns
-returns c = told _ (sym c.is_length.ensures ∙ holds _ c.if-not-is_length.false) c.head_ok.ensures c.unless.ensures
-
-pub refusals::head_ok : goal.refusals::head_ok
-refusals::head_ok c = ?
+returns c = told _ (sym c.is_length.ensures ∙ c.if-not-is_length.false) c.head_ok.ensures c.unless.ensures

@@ -11,4 +11,4 @@ use Rattle.refusals.proofs.head_ok.Goals as goal
 pub returns : goal.returns
 unfolding head_ok
 returns c = let n = length c.args.s.now in
-    ap₂ ◌&&◌ (c.is_Known.ensures ∙ ap₂ known c.read_u16-size.ensures c.read_u16-kind.ensures) (ap (λ (k : ℕ). eqb k n) c.read_u16-size.ensures)
+    ap₂ ◌&&◌ (c.is_known.ensures ∙ ap₂ known c.read_u16-size.ensures c.read_u16-kind.ensures) (ap (λ (k : ℕ). eqb k n) c.read_u16-size.ensures)

@@ -9,15 +9,3 @@ unfolding lists_ok
 returns c = let flags = ap₂ ◌&&◌ (ap₂ ◌&&◌ (ap₂ ◌&&◌ c.one_or_two.ensures c.zero_or_one.ensures) c.zero_or_one-2.ensures) c.zero_or_one-3.ensures in
     let kinds = ap₂ ◌&&◌ (ap₂ ◌&&◌ flags c.one_to_three.ensures) c.one_to_three-2.ensures in
     ap₂ ◌&&◌ (ap₂ ◌&&◌ kinds c.zero_to_two.ensures) c.zero_to_two-2.ensures
-
-pub refusals::one_or_two : goal.refusals::one_or_two
-refusals::one_or_two c = ?
-
-pub refusals::zero_or_one : goal.refusals::zero_or_one
-refusals::zero_or_one c = ?
-
-pub refusals::one_to_three : goal.refusals::one_to_three
-refusals::one_to_three c = ?
-
-pub refusals::zero_to_two : goal.refusals::zero_to_two
-refusals::zero_to_two c = ?

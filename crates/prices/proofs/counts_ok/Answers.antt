@@ -1,0 +1,19 @@
+use Prim.Native.Nat.{ℕ}
+use mathlib.Core.Path.{ap₂}
+use mathlib.Core.Bool.{Bool, ◌&&◌}
+use lib.Dec.{leb}
+use Rattle.wire.proofs.Tests.{fails, holds}
+use Rattle.refusals.specs.Tests.{counts_ok}
+use borrow.Author.Rules.{rules}
+use Rattle.prices.proofs.counts_ok.Goals as goal
+
+abbrev counted : ℕ → Bool
+counted n = leb 1 n && leb n 1000000
+
+pub returns-then-not-t : goal.returns-then-not-t
+unfolding counts_ok
+returns-then-not-t c = simp (fails (counted c.args.t.contracts.0) c.if-not-t.true)
+
+pub returns : goal.returns
+unfolding counts_ok
+returns c = simp (holds (counted c.args.t.contracts.0) c.if-not-t.false) (ap₂ ◌&&◌ c.quote_ok.ensures c.quote_ok-2.ensures)

@@ -1,0 +1,7 @@
+use Rattle.quotes.specs.Quotes.{posted_at}
+use borrow.Author.Rules.{rules}
+use Rattle.quotes.proofs.posted_at.Goals as goal
+
+pub returns : goal.returns
+unfolding posted_at
+returns c = cc
