@@ -1,5 +1,4 @@
 use Rattle.answer.proofs.Written.{answered}
-use borrow.Author.Rules.{rules}
 use Rattle.answer.proofs.answer_case.Goals as goal
 
 pub returns : goal.returns

@@ -1,9 +1,7 @@
 use mathlib.Core.Path.{sym, ◌∙◌}
-use Rattle.wire.proofs.Tests.{fails, holds}
 use Rattle.wire.proofs.Laid.{laid_none, ends}
 use Rattle.cases.proofs.Laws.{passed_whole}
 use Rattle.answer.proofs.Cases.{case_length_lem, case_room, case_refused, case_ruled}
-use borrow.Author.Rules.{rules}
 use Rattle.answer.proofs.rule_case.Goals as goal
 
 pub returns-then-not-is_length : goal.returns-then-not-is_length

@@ -2,7 +2,6 @@ use mathlib.Core.Path.{◌≡◌}
 use native.Mathlib.Omega.{arith}
 use Rattle.best_lines.specs.Words.{At, None}
 use Rattle.best_lines.specs.BestLines.{amount_text}
-use borrow.Author.Rules.{rules}
 use Rattle.best_lines.proofs.add_amount.Goals as goal
 
 pub returns-in-At : goal.returns-in-At

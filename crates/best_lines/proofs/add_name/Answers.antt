@@ -2,7 +2,6 @@ use mathlib.Core.Path.{◌≡◌}
 use native.Mathlib.Omega.{arith}
 use Rattle.best_lines.specs.Words.{Bid, Offer}
 use Rattle.best_lines.specs.BestLines.{head_name}
-use borrow.Author.Rules.{rules}
 use Rattle.best_lines.proofs.add_name.Goals as goal
 
 pub returns-in-Bid : goal.returns-in-Bid

@@ -1,7 +1,6 @@
 use native.Mathlib.Omega.{arith}
 use Rattle.text.proofs.Placed.{placed_next}
 use Rattle.best_lines.specs.BestLines.{quote_line}
-use borrow.Author.Rules.{rules}
 use Rattle.best_lines.proofs.add_quote.Goals as goal
 
 pub returns : goal.returns

@@ -3,7 +3,6 @@ use native.Mathlib.Omega.{arith}
 use Rattle.best_lines.specs.Words.{Silent, Sent}
 use Rattle.best_lines.specs.BestLines.{sayer_line}
 use Rattle.best_lines.proofs.NoLine.{no_line}
-use borrow.Author.Rules.{rules}
 use Rattle.best_lines.proofs.add_sayer.Goals as goal
 
 pub returns-in_default : goal.returns-in_default

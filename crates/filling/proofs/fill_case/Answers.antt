@@ -3,7 +3,6 @@ use Rattle.record.specs.Record.{facts_of}
 use Rattle.cases.proofs.Laws.{passed_whole}
 use native.Mathlib.Omega.{arith}
 use mathlib.Core.Path.{sym, ◌∙◌}
-use borrow.Author.Rules.{rules}
 use Rattle.filling.proofs.fill_case.Goals as goal
 
 pub returns-then-number-ne0 : goal.returns-then-number-ne0

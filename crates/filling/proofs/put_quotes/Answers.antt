@@ -2,7 +2,6 @@ use Rattle.facts.specs.Numbers.{price_number}
 use Rattle.wire.specs.Numbers.{bytes}
 use Rattle.filling.specs.Filling.{filled}
 use Rattle.wire.proofs.Stored.{next, number_given}
-use borrow.Author.Rules.{rules}
 use Rattle.filling.proofs.put_quotes.Goals as goal
 
 pub returns : goal.returns

@@ -1,7 +1,6 @@
 use Rattle.lines.proofs.Joined.{four_fields}
 use native.Mathlib.Omega.{arith}
 use Rattle.text.proofs.Placed.{placed_next}
-use borrow.Author.Rules.{rules}
 use Rattle.lines.proofs.add_last.Goals as goal
 
 pub returns : goal.returns

@@ -1,6 +1,5 @@
 use native.Mathlib.Omega.{arith}
 use Rattle.text.proofs.Placed.{placed_next}
-use borrow.Author.Rules.{rules}
 use Rattle.lines.proofs.add_number.Goals as goal
 
 pub returns : goal.returns

@@ -1,7 +1,6 @@
 use borrow.Author.Tests.{ne_eqb}
 use Rattle.lines.specs.Lines.{outcome_word}
 use native.Mathlib.Omega.{arith}
-use borrow.Author.Rules.{rules}
 use Rattle.lines.proofs.add_outcome.Goals as goal
 
 pub returns-in-0 : goal.returns-in-0

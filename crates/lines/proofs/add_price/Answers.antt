@@ -2,7 +2,6 @@ use Rattle.facts.specs.Numbers.{price_of}
 use mathlib.Core.Path.{◌≡◌}
 use native.Mathlib.Omega.{arith}
 use Rattle.text.proofs.Placed.{placed_next}
-use borrow.Author.Rules.{rules}
 use Rattle.lines.proofs.add_price.Goals as goal
 
 pub returns : goal.returns

@@ -1,6 +1,5 @@
 use Rattle.lines.specs.Lines.{header}
 use Rattle.text.proofs.Placed.{ran_first}
-use borrow.Author.Rules.{rules}
 use Rattle.lines.proofs.put_header.Goals as goal
 
 pub returns : goal.returns

@@ -3,7 +3,6 @@ use Rattle.text.specs.Text.{letters, decimal_of}
 use Rattle.lines.proofs.Joined.{three_fields, as_line}
 use Rattle.lines.specs.Lines.{refused_line}
 use Rattle.text.proofs.Placed.{ran_first, ran_next}
-use borrow.Author.Rules.{rules}
 use Rattle.lines.proofs.put_refused.Goals as goal
 
 pub returns : goal.returns

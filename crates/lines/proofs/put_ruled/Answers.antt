@@ -1,7 +1,6 @@
 use Rattle.lines.proofs.Joined.{five_more}
 use Rattle.lines.specs.Lines.{ruled_line}
 use Rattle.text.proofs.Placed.{ran_first, ran_next}
-use borrow.Author.Rules.{rules}
 use Rattle.lines.proofs.put_ruled.Goals as goal
 
 pub returns : goal.returns

@@ -1,7 +1,6 @@
 use Rattle.lines.proofs.Joined.{two_fields}
 use Rattle.lines.specs.Lines.{sheet_line}
 use Rattle.text.proofs.Placed.{ran_first, ran_next}
-use borrow.Author.Rules.{rules}
 use Rattle.lines.proofs.put_sheet.Goals as goal
 
 pub returns : goal.returns

@@ -4,7 +4,6 @@ use Rattle.wire.specs.Numbers.{bytes}
 use Rattle.wire.proofs.Laid.{laid_part}
 use Rattle.notices.specs.Words.{Buy, Sell}
 use Rattle.notices.specs.Records.{ruling_record, notice_record, answer_records}
-use borrow.Author.Rules.{rules}
 use Rattle.notices.proofs.put_answer.Goals as goal
 
 pub returns : goal.returns

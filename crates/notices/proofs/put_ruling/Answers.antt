@@ -1,5 +1,4 @@
 use Rattle.notices.proofs.Built.{ruling_written}
-use borrow.Author.Rules.{rules}
 use Rattle.notices.proofs.put_ruling.Goals as goal
 
 pub returns : goal.returns

@@ -1,7 +1,6 @@
 use mathlib.Core.Bool.{true, false}
 use mathlib.Core.Path.{◌≡◌}
 use Rattle.notices.specs.Records.{shows, shown_code}
-use borrow.Author.Rules.{rules}
 use Rattle.notices.proofs.put_shown.Goals as goal
 
 pub returns-then-shows : goal.returns-then-shows

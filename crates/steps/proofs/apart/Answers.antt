@@ -3,7 +3,6 @@ use Prim.Native.Nat.{◌+◌, ◌-◌}
 use native.Mathlib.Omega.{arith}
 use Rattle.facts.specs.Numbers.{mills}
 use Rattle.steps.specs.Found.{apart}
-use borrow.Author.Rules.{rules}
 use Rattle.steps.proofs.apart.Goals as goal
 
 pub returns-then-a-b : goal.returns-then-a-b

@@ -1,5 +1,4 @@
 use Rattle.steps.specs.Found.{catastrophic_step}
-use borrow.Author.Rules.{rules}
 use Rattle.steps.proofs.catastrophic_step.Goals as goal
 
 pub returns : goal.returns

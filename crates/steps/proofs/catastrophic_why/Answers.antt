@@ -1,5 +1,4 @@
 use Rattle.steps.specs.Tried.{catastrophic_why}
-use borrow.Author.Rules.{rules}
 use Rattle.steps.proofs.catastrophic_why.Goals as goal
 
 pub returns : goal.returns

@@ -1,7 +1,6 @@
 use mathlib.Core.Path.{◌≡◌, ap}
 use Rattle.facts.specs.Numbers.{seconds}
 use Rattle.steps.specs.Tried.{clock_of}
-use borrow.Author.Rules.{rules}
 use Rattle.steps.proofs.find_clock.Goals as goal
 
 pub returns : goal.returns

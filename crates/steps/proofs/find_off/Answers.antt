@@ -1,5 +1,4 @@
 use Rattle.steps.specs.Found.{error_of}
-use borrow.Author.Rules.{rules}
 use Rattle.steps.proofs.find_off.Goals as goal
 
 pub returns : goal.returns

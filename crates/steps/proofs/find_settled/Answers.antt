@@ -1,5 +1,4 @@
 use Rattle.steps.specs.Steps.{settled_of}
-use borrow.Author.Rules.{rules}
 use Rattle.steps.proofs.find_settled.Goals as goal
 
 pub returns : goal.returns

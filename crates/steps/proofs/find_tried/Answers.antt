@@ -1,5 +1,4 @@
 use Rattle.steps.specs.Tried.{tried_of}
-use borrow.Author.Rules.{rules}
 use Rattle.steps.proofs.find_tried.Goals as goal
 
 pub returns : goal.returns

@@ -1,5 +1,4 @@
 use Rattle.steps.specs.Found.{ignored_why}
-use borrow.Author.Rules.{rules}
 use Rattle.steps.proofs.ignored_why.Goals as goal
 
 pub returns : goal.returns

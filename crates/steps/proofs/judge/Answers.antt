@@ -1,5 +1,4 @@
 use Rattle.steps.specs.Steps.{judged_of}
-use borrow.Author.Rules.{rules}
 use Rattle.steps.proofs.judge.Goals as goal
 
 pub returns : goal.returns

@@ -1,5 +1,4 @@
 use Rattle.steps.specs.Found.{limit_of}
-use borrow.Author.Rules.{rules}
 use Rattle.steps.proofs.limit_of.Goals as goal
 
 pub returns : goal.returns

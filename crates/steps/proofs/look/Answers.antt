@@ -3,7 +3,6 @@ use Rattle.parties.specs.Parties.{by_side}
 use Rattle.theory.specs.Theory.{quote_for}
 use Rattle.steps.specs.Words.{Side, Buy, Sell, Market}
 use Rattle.steps.specs.Found.{looked_of}
-use borrow.Author.Rules.{rules}
 use Rattle.steps.proofs.look.Goals as goal
 
 -- the price of a side's quote is the offer's for a buy, the bid's for a sell

@@ -1,5 +1,4 @@
 use Rattle.steps.specs.Found.{obvious_step}
-use borrow.Author.Rules.{rules}
 use Rattle.steps.proofs.obvious_step.Goals as goal
 
 pub returns : goal.returns

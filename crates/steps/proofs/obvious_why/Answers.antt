@@ -1,5 +1,4 @@
 use Rattle.steps.specs.Tried.{obvious_why}
-use borrow.Author.Rules.{rules}
 use Rattle.steps.proofs.obvious_why.Goals as goal
 
 pub returns : goal.returns

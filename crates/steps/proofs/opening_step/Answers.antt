@@ -1,5 +1,4 @@
 use Rattle.steps.specs.Found.{opening_step}
-use borrow.Author.Rules.{rules}
 use Rattle.steps.proofs.opening_step.Goals as goal
 
 pub returns : goal.returns

@@ -1,5 +1,4 @@
 use Rattle.steps.specs.Steps.{reached_by}
-use borrow.Author.Rules.{rules}
 use Rattle.steps.proofs.reach_by.Goals as goal
 
 pub returns-then-f : goal.returns-then-f

@@ -1,6 +1,5 @@
 use mathlib.Core.Path.{sym, ◌∙◌}
 use Rattle.steps.specs.Steps.{reached_on}
-use borrow.Author.Rules.{rules}
 use Rattle.steps.proofs.reach_on.Goals as goal
 
 pub returns-in-Found : goal.returns-in-Found

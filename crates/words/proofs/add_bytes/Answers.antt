@@ -2,7 +2,6 @@ use native.Mathlib.Omega.{arith}
 use Rattle.text.proofs.Placed.{placed_next}
 use Rattle.words.specs.Values.{bytes_text}
 use Rattle.words.proofs.Lengths.{three_digits}
-use borrow.Author.Rules.{rules}
 use Rattle.words.proofs.add_bytes.Goals as goal
 
 pub add_decimal-end-requires : goal.add_decimal-end-requires

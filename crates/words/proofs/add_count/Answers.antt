@@ -7,7 +7,6 @@ use borrow.Author.Tests.{lt-ltb, le-ltb}
 use Rattle.words.specs.Grouped.{grouped_text, grouped_by}
 use Prim.Native.Nat.{◌/◌}
 use Rattle.words.proofs.Lengths.{two_most}
-use borrow.Author.Rules.{rules}
 use Rattle.words.proofs.add_count.Goals as goal
 
 pub returns-then-n-lt1000 : goal.returns-then-n-lt1000

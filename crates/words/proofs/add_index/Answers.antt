@@ -1,11 +1,6 @@
 use native.Mathlib.Omega.{arith}
 use Rattle.text.proofs.Placed.{placed_next}
 use Rattle.words.specs.Rows.{index_text}
-use borrow.Author.Rules.{rules}
-use Rattle.words.proofs.add_index.Reads as reads
-use Rattle.words.proofs.add_index.Lts as lts
-use Rattle.text.proofs.add_decimal.Reads as add_decimal_reads
-use Rattle.text.proofs.add_word.Reads as add_word_reads
 use Rattle.words.proofs.add_index.Goals as goal
 
 pub returns : goal.returns

@@ -5,7 +5,6 @@ use mathlib.Core.Bool.{true, false}
 use lib.Dec.{ltb}
 use borrow.Author.Tests.{lt-ltb, le-ltb}
 use Rattle.words.specs.Grouped.{grouped_by}
-use borrow.Author.Rules.{rules}
 use Rattle.words.proofs.add_one_group.Goals as goal
 
 pub returns-then-n-lt1000 : goal.returns-then-n-lt1000

@@ -1,7 +1,6 @@
 use native.Mathlib.Omega.{arith}
 use Rattle.words.proofs.Rows.{nothing_laid}
 use Rattle.words.proofs.Cut.{places, cut_out, phrase_short, no_phrase}
-use borrow.Author.Rules.{rules}
 use Rattle.words.proofs.add_phrase.Goals as goal
 
 pub slice_bounds-add_word-count : goal.slice_bounds-add_word-count

@@ -5,7 +5,6 @@ use lib.Dec.{eqb}
 use borrow.Author.Tests.{eq-eqb, ne_eqb}
 use Rattle.words.specs.Values.{place_text}
 use Rattle.words.proofs.Rows.{nothing_laid}
-use borrow.Author.Rules.{rules}
 use Rattle.words.proofs.add_place.Goals as goal
 
 pub returns-then-width-eq0 : goal.returns-then-width-eq0

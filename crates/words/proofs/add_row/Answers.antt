@@ -1,12 +1,10 @@
-use Prim.Native.Nat.{◌+◌, ◌-◌, ◌*◌, ◌≤◌}
+use Prim.Native.Nat.{◌-◌}
 use mathlib.Core.Path.{◌≡◌}
 use native.Mathlib.Omega.{arith}
-use lib.ListN.{length, take}
-use borrow.Author.Rules.{rules}
-use Rattle.text.specs.Text.{laid_at}
+use lib.ListN.{length}
 use Rattle.text.proofs.Placed.{placed_next}
 use Rattle.words.specs.Pieces.{row_text}
-use Rattle.words.proofs.Rows.{nothing_laid, row_more, all_taken}
+use Rattle.words.proofs.Rows.{nothing_laid, row_more}
 use Rattle.words.proofs.add_row.Goals as goal
 
 pub loop-i-init : goal.loop-i-init

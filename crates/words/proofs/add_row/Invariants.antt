@@ -1,11 +1,8 @@
 use Prim.Native.Nat.{◌+◌, ◌-◌, ◌*◌, ◌≤◌}
 use mathlib.Core.Path.{◌≡◌}
-use native.Mathlib.Omega.{arith}
 use lib.ListN.{length, take}
 use Rattle.text.specs.Text.{laid_at}
-use Rattle.text.proofs.Placed.{placed_next}
 use Rattle.words.specs.Pieces.{row_text}
-use Rattle.words.proofs.Rows.{nothing_laid, row_more, all_taken}
 use Rattle.words.proofs.add_row.Given as goal
 
 abbrev pub invariant-loop-i : goal.invariant-loop-i

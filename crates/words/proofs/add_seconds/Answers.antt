@@ -1,7 +1,6 @@
 use native.Mathlib.Omega.{arith}
 use Rattle.text.proofs.Placed.{placed_next}
 use Rattle.words.specs.Values.{seconds_text}
-use borrow.Author.Rules.{rules}
 use Rattle.words.proofs.add_seconds.Goals as goal
 
 pub returns : goal.returns

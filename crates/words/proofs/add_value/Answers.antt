@@ -1,7 +1,6 @@
 use native.Mathlib.Omega.{arith}
 use Rattle.words.proofs.Rows.{nothing_laid}
 use Rattle.words.specs.Values.{value_text}
-use borrow.Author.Rules.{rules}
 use Rattle.words.proofs.add_value.Goals as goal
 
 pub returns-in-Nothing : goal.returns-in-Nothing
