@@ -3,112 +3,129 @@
 // standing, and the origin of TP; 4294967295 is none. The record that each starts from is `specimen`'s.
 #![tactic(auto)]
 
-use libc::STDOUT_FILENO;
 use specimen::{byte, good, word};
+use std::alloc::AllocError;
+use std::io;
 
 // The mark "none".
 const NONE: u32 = 4294967295;
 
 // ---- what is printed
 
-fn say(text: &[u8]) {
-    io::write_all(STDOUT_FILENO, text);
+fn say(said: &mut Vec<u8>, text: &[u8]) -> Result<(), AllocError> {
+    said.extend_from_slice(text)
 }
 
-fn say_number(before: &[u8], n: u64) {
-    say(before);
-    io::print_decimal(STDOUT_FILENO, n);
+fn say_number(said: &mut Vec<u8>, before: &[u8], n: u64) -> Result<(), AllocError> {
+    say(said, before)?;
+    let digits = n.to_string(*said.allocator())?;
+    say(said, digits.as_str().as_bytes())
 }
 
 fn wide(b: u8) -> u64 {
     b as u64
 }
 
-fn say_u8(answer: &[u8], at: usize) {
+fn say_u8(said: &mut Vec<u8>, answer: &[u8], at: usize) -> Result<(), AllocError> {
     if at < answer.len() {
-        say_number(b" ", wide(answer[at]));
+        say_number(said, b" ", wide(answer[at]))?;
     }
+    Ok(())
 }
 
-fn say_u32(answer: &[u8], at: usize) {
+fn say_u32(said: &mut Vec<u8>, answer: &[u8], at: usize) -> Result<(), AllocError> {
     if at < 93 {
         if 96 <= answer.len() {
-            say_number(b" ", wire::read_u32(answer, at) as u64);
+            say_number(said, b" ", wire::read_u32(answer, at) as u64)?;
         }
     }
+    Ok(())
 }
 
 // The ruling's fields, from the answer's first 32 bytes.
-fn say_ruling(answer: &[u8]) {
-    say_u8(answer, 8);
-    say_u8(answer, 9);
-    say_u32(answer, 12);
-    say_u32(answer, 16);
-    say_u32(answer, 20);
-    say_u32(answer, 24);
-    say_u32(answer, 28);
-    say_u8(answer, 10);
+fn say_ruling(said: &mut Vec<u8>, answer: &[u8]) -> Result<(), AllocError> {
+    say_u8(said, answer, 8)?;
+    say_u8(said, answer, 9)?;
+    say_u32(said, answer, 12)?;
+    say_u32(said, answer, 16)?;
+    say_u32(said, answer, 20)?;
+    say_u32(said, answer, 24)?;
+    say_u32(said, answer, 28)?;
+    say_u8(said, answer, 10)
 }
 
 // ---- a case
 
-fn ruled(name: &[u8], case: [u8; 88]) {
+fn ruled(said: &mut Vec<u8>, name: &[u8], case: [u8; 88]) -> Result<(), AllocError> {
     let mut out = [0u8; 96];
     let n = answer::rule_case(&case, &mut out);
-    say(name);
-    say_number(b": ", wide(n));
+    say(said, name)?;
+    say_number(said, b": ", wide(n))?;
     if n == 0 {
-        say_ruling(&out);
+        say_ruling(said, &out)?;
     }
-    say(b"\n");
+    say(said, b"\n")
 }
 
-fn days() {
-    ruled(b"good", good());
-    ruled(b"day 1 at 30600", byte(word(good(), 72, 30600), 66, 1));
-    ruled(b"day 1 at 30601", byte(word(good(), 72, 30601), 66, 1));
-    ruled(b"day 2", byte(good(), 66, 2));
-    ruled(b"a Market Maker after 300 s", word(good(), 72, 34500));
-    ruled(b"a Market Maker after 301 s", word(good(), 72, 34501));
-}
-
-fn deadlines() {
+fn days(said: &mut Vec<u8>) -> Result<(), AllocError> {
+    ruled(said, b"good", good())?;
     ruled(
+        said,
+        b"day 1 at 30600",
+        byte(word(good(), 72, 30600), 66, 1),
+    )?;
+    ruled(
+        said,
+        b"day 1 at 30601",
+        byte(word(good(), 72, 30601), 66, 1),
+    )?;
+    ruled(said, b"day 2", byte(good(), 66, 2))?;
+    ruled(said, b"a Market Maker after 300 s", word(good(), 72, 34500))?;
+    ruled(said, b"a Market Maker after 301 s", word(good(), 72, 34501))
+}
+
+fn deadlines(said: &mut Vec<u8>) -> Result<(), AllocError> {
+    ruled(
+        said,
         b"expiry deadline, day 0 at 61200",
         byte(word(good(), 72, 61200), 46, 1),
-    );
+    )?;
     ruled(
+        said,
         b"expiry deadline, day 0 at 61201",
         byte(word(good(), 72, 61201), 46, 1),
-    );
+    )?;
     ruled(
+        said,
         b"no expiry deadline, day 0 at 86399",
         word(good(), 72, 86399),
-    );
+    )?;
     ruled(
+        said,
         b"expiry deadline, day 1 at 0",
         byte(byte(word(good(), 72, 0), 66, 1), 46, 1),
-    );
+    )
 }
 
-fn panels() {
+fn panels(said: &mut Vec<u8>) -> Result<(), AllocError> {
     let late = word(good(), 72, 36000);
-    ruled(b"panel decided, obvious way", byte(good(), 47, 1));
-    ruled(b"panel decided, catastrophic way", byte(late, 47, 1));
+    ruled(said, b"panel decided, obvious way", byte(good(), 47, 1))?;
+    ruled(said, b"panel decided, catastrophic way", byte(late, 47, 1))?;
     ruled(
+        said,
         b"panel decided, no price",
         byte(word(word(late, 24, NONE), 32, 0), 47, 1),
-    );
+    )
 }
 
-fn prices() {
+fn prices(said: &mut Vec<u8>) -> Result<(), AllocError> {
     let bare = word(word(good(), 24, NONE), 32, 0);
-    ruled(b"an offer, official 1200", word(good(), 40, 1200));
-    ruled(b"no offer, official 1500", word(bare, 40, 1500));
-    ruled(b"no offer, no official", bare);
-    ruled(b"a sell above the bid", byte(good(), 44, 2));
-    ruled(b"a buy far below the offer", word(good(), 8, 100));
-    ruled(b"a Customer buys", byte(good(), 64, 1));
+    ruled(said, b"an offer, official 1200", word(good(), 40, 1200))?;
+    ruled(said, b"no offer, official 1500", word(bare, 40, 1500))?;
+    ruled(said, b"no offer, no official", bare)?;
+    ruled(said, b"a sell above the bid", byte(good(), 44, 2))?;
+    ruled(said, b"a buy far below the offer", word(good(), 8, 100))?;
+    ruled(said, b"a Customer buys", byte(good(), 64, 1))
 }
 
 // A Customer buys on the opening, 1,201 s ago.
@@ -116,39 +133,44 @@ fn opening() -> [u8; 88] {
     byte(byte(word(good(), 72, 35401), 45, 1), 64, 1)
 }
 
-fn openings() {
-    ruled(b"opening", opening());
-    ruled(b"opening, 50 contracts", word(opening(), 12, 50));
+fn openings(said: &mut Vec<u8>) -> Result<(), AllocError> {
+    ruled(said, b"opening", opening())?;
+    ruled(said, b"opening, 50 contracts", word(opening(), 12, 50))?;
     ruled(
+        said,
         b"opening, official 1500, 50 contracts",
         word(
             word(word(word(opening(), 24, NONE), 32, 0), 40, 1500),
             12,
             50,
         ),
-    );
+    )?;
     ruled(
+        said,
         b"opening, offer of zero for none",
         word(word(opening(), 24, 0), 32, 0),
-    );
-    ruled(b"opening after 1200 s", word(opening(), 72, 35400));
+    )?;
+    ruled(said, b"opening after 1200 s", word(opening(), 72, 35400))
 }
 
-fn more_openings() {
-    ruled(b"opening at 59400", word(opening(), 72, 59400));
-    ruled(b"opening at 59401", word(opening(), 72, 59401));
+fn more_openings(said: &mut Vec<u8>) -> Result<(), AllocError> {
+    ruled(said, b"opening at 59400", word(opening(), 72, 59400))?;
+    ruled(said, b"opening at 59401", word(opening(), 72, 59401))?;
     ruled(
+        said,
         b"opening, other party's limit 1600",
         byte(word(opening(), 60, 1600), 65, 3),
-    );
+    )?;
     ruled(
+        said,
         b"opening, other party's limit 1500",
         byte(word(opening(), 60, 1500), 65, 3),
-    );
+    )?;
     ruled(
+        said,
         b"opening, a Market Maker's limit 1600",
         word(opening(), 60, 1600),
-    );
+    )
 }
 
 // Agreed on 1.700 after so many seconds.
@@ -156,22 +178,25 @@ fn agreed(case: [u8; 88], after: u32) -> [u8; 88] {
     byte(word(word(case, 68, 1700), 76, after), 67, 1)
 }
 
-fn agreements() {
-    ruled(b"agreed on 1700 after 600 s", agreed(good(), 600));
-    ruled(b"agreed on 1700 after 601 s", agreed(good(), 601));
+fn agreements(said: &mut Vec<u8>) -> Result<(), AllocError> {
+    ruled(said, b"agreed on 1700 after 600 s", agreed(good(), 600))?;
+    ruled(said, b"agreed on 1700 after 601 s", agreed(good(), 601))?;
     ruled(
+        said,
         b"a Customer agreed after 1800 s",
         agreed(byte(good(), 64, 1), 1800),
-    );
+    )?;
     ruled(
+        said,
         b"a Customer agreed after 1801 s",
         agreed(byte(good(), 64, 1), 1801),
-    );
-    ruled(b"agreed to nullify, no Customer", byte(good(), 67, 2));
+    )?;
+    ruled(said, b"agreed to nullify, no Customer", byte(good(), 67, 2))?;
     ruled(
+        said,
         b"agreed to nullify on the opening way",
         byte(opening(), 67, 2),
-    );
+    )
 }
 
 // Bought at 3.000, 1,800 s ago: the catastrophic way, new price 2.500.
@@ -179,40 +204,48 @@ fn absurd() -> [u8; 88] {
     word(word(good(), 8, 3000), 72, 36000)
 }
 
-fn catastrophes() {
+fn catastrophes(said: &mut Vec<u8>) -> Result<(), AllocError> {
     ruled(
+        said,
         b"a Customer agreed to nullify, catastrophic way",
         byte(byte(absurd(), 64, 1), 67, 2),
-    );
+    )?;
     ruled(
+        said,
         b"a selling Market Maker's limit 2800",
         word(absurd(), 60, 2800),
-    );
+    )?;
     ruled(
+        said,
         b"a selling Customer's limit 2800",
         byte(word(absurd(), 60, 2800), 65, 1),
-    );
+    )?;
     ruled(
+        said,
         b"a selling Customer's limit 2500",
         byte(word(absurd(), 60, 2500), 65, 1),
-    );
+    )?;
     ruled(
+        said,
         b"accepted after 1800 s",
         word(byte(word(absurd(), 60, 2800), 65, 1), 80, 1800),
-    );
+    )?;
     ruled(
+        said,
         b"accepted after 1801 s",
         word(byte(word(absurd(), 60, 2800), 65, 1), 80, 1801),
-    );
+    )
 }
 
-fn main() {
-    days();
-    deadlines();
-    panels();
-    prices();
-    openings();
-    more_openings();
-    agreements();
-    catastrophes();
+fn main(rt: HostRuntime) -> io::Result<()> {
+    let mut said = Vec::new(rt.alloc());
+    days(&mut said)?;
+    deadlines(&mut said)?;
+    panels(&mut said)?;
+    prices(&mut said)?;
+    openings(&mut said)?;
+    more_openings(&mut said)?;
+    agreements(&mut said)?;
+    catastrophes(&mut said)?;
+    rt.write_all(said.as_slice())
 }
