@@ -3,13 +3,19 @@
 // one of 65,536 bytes and refused as every sheet above 52,800 is.
 #![tactic(auto)]
 
+ghost use Rattle.std.specs.Prelude.{IsTrue};
+ghost use Rattle.std.specs.Io.KnownBytes.{Appends, IsAtEnd};
+ghost use Rattle.explanation.specs.Pieces.{explanation_of};
+
 use explanation::Wanted;
 use std::io::{Read, Write};
 use std::rt::Files;
 
 // `read_full` also stops where a read fails. At a true end another read gives nothing; where it does not, what was read is not whole, and a part
 // of it must not be answered as if it were.
-fn ended<R: Read>(input: &mut R) -> bool {
+fn ended<R: Read>(input: &mut R) -> bool
+    ensures { IsTrue result → IsAtEnd (R.remaining input.old) }
+{
     let mut more = [0u8; 1];
     matches!(input.read(&mut more), Ok(0))
 }
@@ -30,7 +36,9 @@ fn read_wanted<R: Files>(rt: &R) -> Option<Wanted> {
 }
 
 // Writes the pieces. Whether they could be written.
-fn tell<W: Write>(output: &mut W, sheet: &[u8], want: Wanted) -> bool {
+fn tell<W: Write>(output: &mut W, sheet: &[u8], want: Wanted) -> bool
+    ensures { IsTrue result → Appends (W.contents output.old) (W.contents output.new) (explanation_of sheet.now want) }
+{
     let mut text = [0u8; 20480];
     let n = explanation::count_pieces(sheet);
     let mut k: usize = 0;

@@ -3,12 +3,19 @@
 // and refused as all quotes above 56,000 and every sheet above 52,800 are.
 #![tactic(auto)]
 
+ghost use Rattle.std.specs.Prelude.{◌≡◌, ◌<◌, IfSome, IsTrue};
+ghost use Rattle.std.specs.Counts.{IsPrefixLen};
+ghost use Rattle.std.specs.Io.KnownBytes.{Appends, IsAtEnd};
+ghost use Rattle.fillings.specs.Fillings.{fill_sheet_of};
+
 use std::io::{Read, Write};
 use std::rt::Files;
 
 // Whether an input was read to its end. `read_full` also stops where a read fails. At a true end another read gives nothing; where it does not, a part
 // of the input must not be taken for all of it.
-fn ended<R: Read>(input: &mut R, n: usize) -> bool {
+fn ended<R: Read>(input: &mut R, n: usize) -> bool
+    ensures { IsTrue result → n < 65536 → IsAtEnd (R.remaining input.old) }
+{
     if n == 65536 {
         return true;
     }
@@ -17,7 +24,9 @@ fn ended<R: Read>(input: &mut R, n: usize) -> bool {
 }
 
 // Reads the quotes. How many bytes there are, if they could be read.
-fn read_quotes<R: Files>(rt: &R, quotes: &mut [u8]) -> Option<usize> {
+fn read_quotes<R: Files>(rt: &R, quotes: &mut [u8]) -> Option<usize>
+    ensures { IfSome result (λ n. IsPrefixLen n quotes.new) }
+{
     let mut input = streams::third(rt).ok()?;
     let m = streams::read_full(&mut input, quotes);
     if !ended(&mut input, m) {
@@ -27,7 +36,10 @@ fn read_quotes<R: Files>(rt: &R, quotes: &mut [u8]) -> Option<usize> {
 }
 
 // Fills the sheet, and writes it where it is not refused whole. Whether all that was to be written is.
-fn write_filled<W: Write>(output: &mut W, quotes: &[u8], sheet: &mut [u8]) -> bool {
+fn write_filled<W: Write>(output: &mut W, quotes: &[u8], sheet: &mut [u8]) -> bool
+    ensures filled { sheet.new ≡ (fill_sheet_of quotes.now sheet.old).1 }
+    ensures written { IsTrue result → (fill_sheet_of quotes.now sheet.old).0 ≡ 0 → Appends (W.contents output.old) (W.contents output.new) sheet.new }
+{
     if fillings::fill_sheet(quotes, sheet) != 0 {
         return true;
     }

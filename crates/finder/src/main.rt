@@ -3,18 +3,26 @@
 // of 65,536 bytes and refused as every list above 56,000 is.
 #![tactic(auto)]
 
+ghost use Rattle.std.specs.Prelude.{IfSome, IsTrue};
+ghost use Rattle.std.specs.Counts.{IsPrefixLen};
+ghost use Rattle.std.specs.Io.KnownBytes.{IsAtEnd};
+
 use std::io::{Read, Write};
 use std::rt::Files;
 
 // `read_full` also stops where a read fails. At a true end another read gives nothing; where it does not, what was read is not whole, and a part
 // of it must not be answered as if it were.
-fn ended<R: Read>(input: &mut R) -> bool {
+fn ended<R: Read>(input: &mut R) -> bool
+    ensures { IsTrue result → IsAtEnd (R.remaining input.old) }
+{
     let mut more = [0u8; 1];
     matches!(input.read(&mut more), Ok(0))
 }
 
 // Reads the time. How many bytes were typed, if they could be read.
-fn read_time<R: Files>(rt: &R, time: &mut [u8]) -> Option<usize> {
+fn read_time<R: Files>(rt: &R, time: &mut [u8]) -> Option<usize>
+    ensures { IfSome result (λ n. IsPrefixLen n time.new) }
+{
     let mut typing = streams::third(rt).ok()?;
     let typed = streams::read_full(&mut typing, time);
     if typed < time.len() {

@@ -2,7 +2,10 @@
 // that a longer input, however long, is seen as one of 52,801 bytes and refused as every sheet above 52,800 is. No piece is longer than 96 bytes.
 #![tactic(auto)]
 
+ghost use Rattle.std.specs.Prelude.{◌≡◌, ◌<◌, false, length, take, IsTrue};
 ghost use Rattle.std.specs.Counts.{IsPrefixLen};
+ghost use Rattle.std.specs.Io.KnownBytes.{Appends, Consumes, IsAtEnd};
+ghost use Rattle.report.specs.Report.{text_of};
 
 use std::io::{Read, Write};
 
@@ -15,7 +18,9 @@ struct Input {
 
 // Reads the input until it ends, or the buffer does.
 fn read_sheet<R: Read>(input: &mut R, sheet: &mut [u8]) -> Input
-    ensures { IsPrefixLen result.bytes sheet.new }
+    ensures in_bounds { IsPrefixLen result.bytes sheet.new }
+    ensures bytes { Consumes (R.remaining input.old) (R.remaining input.new) (take result.bytes sheet.new) }
+    ensures end { result.failed ≡ false → result.bytes < length sheet.new → IsAtEnd (R.remaining input.new) }
 {
     let mut done: usize = 0;
     while done < sheet.len() {
@@ -37,20 +42,24 @@ fn read_sheet<R: Read>(input: &mut R, sheet: &mut [u8]) -> Input
 }
 
 // Writes all of a line. Whether it could: a write that takes nothing has failed.
-fn write_line<W: Write>(to: &mut W, line: &[u8]) -> bool {
+fn write_line<W: Write>(to: &mut W, line: &[u8]) -> bool
+    ensures { IsTrue result → Appends (W.contents to.old) (W.contents to.new) line.now }
+{
     let mut done: usize = 0;
     while done < line.len() {
-        let more = to.write(&line[done..]).unwrap_or(0);
-        if more == 0 {
-            return false;
+        match to.write(&line[done..]) {
+            Ok(0) => return false,
+            Ok(more) => done += more,
+            Err(_) => return false,
         }
-        done += more;
     }
     true
 }
 
 // Writes the report's pieces, until an empty one comes after the last. Whether they could be written.
-fn write_report<W: Write>(to: &mut W, sheet: &[u8]) -> bool {
+fn write_report<W: Write>(to: &mut W, sheet: &[u8]) -> bool
+    ensures { IsTrue result → Appends (W.contents to.old) (W.contents to.new) (text_of sheet.now) }
+{
     let mut line = [0u8; 96];
     let mut k: usize = 0;
     loop {

@@ -2,16 +2,24 @@
 // sheet, so that a longer input, however long, is seen as one of 65,536 bytes, of which nothing is told, as of every sheet that is refused.
 #![tactic(auto)]
 
+ghost use Rattle.std.specs.Prelude.{IsTrue};
+ghost use Rattle.std.specs.Io.KnownBytes.{Appends, IsAtEnd};
+ghost use Rattle.warnings.specs.Warned.{warnings_of};
+
 use std::io::{Read, Write};
 
 // `read_full` also stops where a read fails. At a true end another read gives nothing; where it does not, what was read is not whole.
-fn ended<R: Read>(input: &mut R) -> bool {
+fn ended<R: Read>(input: &mut R) -> bool
+    ensures { IsTrue result → IsAtEnd (R.remaining input.old) }
+{
     let mut more = [0u8; 1];
     matches!(input.read(&mut more), Ok(0))
 }
 
 // Writes the warnings; a sheet has at most 600 cases. Whether they could be written.
-fn warn<W: Write>(output: &mut W, sheet: &[u8]) -> bool {
+fn warn<W: Write>(output: &mut W, sheet: &[u8]) -> bool
+    ensures { IsTrue result → Appends (W.contents output.old) (W.contents output.new) (warnings_of sheet.now) }
+{
     let mut text = [0u8; 8192];
     let mut k: usize = 0;
     while k < 600 {
