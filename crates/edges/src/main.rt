@@ -147,21 +147,18 @@ fn number(row: &[u8], from: usize, to: usize) -> u32
     requires { (from ≤ to) × (to ≤ length row.now) }
 {
     let mut n: u32 = 0;
-    let mut i = from;
-    while i < to {
-        let b = row[i];
-        if b < b'0' {
+    for b in &row[from..to] {
+        if *b < b'0' {
             return n;
         }
-        if b'9' < b {
+        if b'9' < *b {
             return n;
         }
-        let digit = (b - b'0') as u32;
+        let digit = (*b - b'0') as u32;
         if (4294967295 - digit) / 10 < n {
             return n;
         }
         n = n * 10 + digit;
-        i += 1;
     }
     n
 }
