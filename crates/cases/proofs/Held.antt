@@ -14,6 +14,6 @@ pub held : (f : Facts) (vs : List Val) → Is (row the_type) f vs → Held f
 held f vs (values, (one, (form, (trade, (market, (request, (buyer, (seller, rest)))))))) =
     record {
       number = omega (arith, trade.1.1.0);
-      buyer = sym (length-map f.buyer.code (λ v. v)) ∙ buyer.1.1.0.1.0.1;
-      seller = sym (length-map f.seller.code (λ v. v)) ∙ seller.1.1.0.1.0.1;
+      buyer = buyer.1.1.0.1.0.1;
+      seller = seller.1.1.0.1.0.1;
     }

@@ -4,22 +4,39 @@
 #![tactic(auto)]
 
 use explanation::Wanted;
+use std::io::{Read, Write};
+use std::rt::Files;
 
 // `read_full` also stops where a read fails. At a true end another read gives nothing; where it does not, what was read is not whole, and a part
 // of it must not be answered as if it were.
-fn ended(fd: i32) -> bool {
+fn ended<R: Read>(input: &mut R) -> bool {
     let mut more = [0u8; 1];
-    libc::read(fd, &mut more) == 0
+    matches!(input.read(&mut more), Ok(0))
+}
+
+// Reads which cases are asked for, if it can be read and has no bytes or four.
+fn read_wanted<R: Files>(rt: &R) -> Option<Wanted> {
+    let mut input = streams::third(rt).ok()?;
+    let mut trade = [0u8; 4];
+    let brought = streams::read_full(&mut input, &mut trade);
+    if !ended(&mut input) | ((brought != 0) & (brought != 4)) {
+        return None;
+    }
+    if brought == 4 {
+        Some(Wanted::Trade(wire::read_u32(&trade, 0)))
+    } else {
+        Some(Wanted::Any)
+    }
 }
 
 // Writes the pieces. Whether they could be written.
-fn tell(sheet: &[u8], want: Wanted) -> bool {
+fn tell<W: Write>(output: &mut W, sheet: &[u8], want: Wanted) -> bool {
     let mut text = [0u8; 20480];
     let n = explanation::count_pieces(sheet);
     let mut k: usize = 0;
     while k < n {
         let m = explanation::explain_piece(sheet, k, want, &mut text);
-        if !io::write_all(1, &text[..m]) {
+        if !streams::write_all(output, &text[..m]) {
             return false;
         }
         k += 1;
@@ -27,27 +44,20 @@ fn tell(sheet: &[u8], want: Wanted) -> bool {
     true
 }
 
-fn main() {
-    let mut trade = [0u8; 4];
-    let brought = io::read_full(3, &mut trade);
-    if !ended(3) | ((brought != 0) & (brought != 4)) {
-        io::write_all(2, b"explainer: the trade cannot be read\n");
+fn main(rt: HostRuntime) {
+    let Some(want) = read_wanted(&rt) else {
+        streams::write_all(&mut rt.stderr(), b"explainer: the trade cannot be read\n");
         return;
-    }
-    let mut sheet = io::large_buffer();
-    let n = io::read_full(0, &mut sheet);
+    };
+    let mut sheet = [0u8; 65536];
+    let n = streams::read_full(&mut rt.stdin(), &mut sheet);
     if n < 65536 {
-        if !ended(0) {
-            io::write_all(2, b"explainer: standard input cannot be read\n");
+        if !ended(&mut rt.stdin()) {
+            streams::write_all(&mut rt.stderr(), b"explainer: standard input cannot be read\n");
             return;
         }
     }
-    let want = if brought == 4 {
-        Wanted::Trade(wire::read_u32(&trade, 0))
-    } else {
-        Wanted::Any
-    };
-    if !tell(&sheet[..n], want) {
-        io::write_all(2, b"explainer: the explanation cannot be written\n");
+    if !tell(&mut rt.stdout(), &sheet[..n], want) {
+        streams::write_all(&mut rt.stderr(), b"explainer: the explanation cannot be written\n");
     }
 }

@@ -3,42 +3,54 @@
 // and refused as all quotes above 56,000 and every sheet above 52,800 are.
 #![tactic(auto)]
 
+use std::io::{Read, Write};
+use std::rt::Files;
+
 // Whether an input was read to its end. `read_full` also stops where a read fails. At a true end another read gives nothing; where it does not, a part
 // of the input must not be taken for all of it.
-fn ended(input: i32, n: usize) -> bool {
+fn ended<R: Read>(input: &mut R, n: usize) -> bool {
     if n == 65536 {
         return true;
     }
     let mut more = [0u8; 1];
-    libc::read(input, &mut more) == 0
+    matches!(input.read(&mut more), Ok(0))
+}
+
+// Reads the quotes. How many bytes there are, if they could be read.
+fn read_quotes<R: Files>(rt: &R, quotes: &mut [u8]) -> Option<usize> {
+    let mut input = streams::third(rt).ok()?;
+    let m = streams::read_full(&mut input, quotes);
+    if !ended(&mut input, m) {
+        return None;
+    }
+    Some(m)
 }
 
 // Fills the sheet, and writes it where it is not refused whole. Whether all that was to be written is.
-fn write_filled(quotes: &[u8], sheet: &mut [u8]) -> bool {
+fn write_filled<W: Write>(output: &mut W, quotes: &[u8], sheet: &mut [u8]) -> bool {
     if fillings::fill_sheet(quotes, sheet) != 0 {
         return true;
     }
-    io::write_all(1, sheet)
+    streams::write_all(output, sheet)
 }
 
-fn main() {
-    let mut quotes = io::large_buffer();
-    let m = io::read_full(3, &mut quotes);
-    if !ended(3, m) {
-        io::write_all(2, b"filler: the quotes cannot be read\n");
+fn main(rt: HostRuntime) {
+    let mut quotes = [0u8; 65536];
+    let Some(m) = read_quotes(&rt, &mut quotes) else {
+        streams::write_all(&mut rt.stderr(), b"filler: the quotes cannot be read\n");
         return;
-    }
-    let mut sheet = io::large_buffer();
-    let n = io::read_full(0, &mut sheet);
-    if !ended(0, n) {
-        io::write_all(2, b"filler: standard input cannot be read\n");
+    };
+    let mut sheet = [0u8; 65536];
+    let n = streams::read_full(&mut rt.stdin(), &mut sheet);
+    if !ended(&mut rt.stdin(), n) {
+        streams::write_all(&mut rt.stderr(), b"filler: standard input cannot be read\n");
         return;
     }
     let mut text = [0u8; 131072];
     let k = fill_report::print_filling(&quotes[..m], &sheet[..n], &mut text);
-    if !write_filled(&quotes[..m], &mut sheet[..n]) {
-        io::write_all(2, b"filler: the sheet cannot be written\n");
+    if !write_filled(&mut rt.stdout(), &quotes[..m], &mut sheet[..n]) {
+        streams::write_all(&mut rt.stderr(), b"filler: the sheet cannot be written\n");
         return;
     }
-    io::write_all(2, &text[..k]);
+    streams::write_all(&mut rt.stderr(), &text[..k]);
 }

@@ -3,42 +3,54 @@
 // of 65,536 bytes and refused as every list above 56,000 is.
 #![tactic(auto)]
 
+use std::io::{Read, Write};
+use std::rt::Files;
+
 // `read_full` also stops where a read fails. At a true end another read gives nothing; where it does not, what was read is not whole, and a part
 // of it must not be answered as if it were.
-fn ended(fd: i32) -> bool {
+fn ended<R: Read>(input: &mut R) -> bool {
     let mut more = [0u8; 1];
-    libc::read(fd, &mut more) == 0
+    matches!(input.read(&mut more), Ok(0))
 }
 
-fn tell(quotes: &[u8], time: &[u8]) {
-    let mut text = [0u8; 4096];
-    let k = standing::print_best(quotes, time, &mut text);
-    if !io::write_all(1, &text[..k]) {
-        io::write_all(2, b"finder: the text cannot be written\n");
-    }
-}
-
-fn main() {
-    let mut time = [0u8; 64];
-    let typed = io::read_full(3, &mut time);
-    if typed < 64 {
-        if !ended(3) {
-            io::write_all(2, b"finder: the time cannot be read\n");
-            return;
+// Reads the time. How many bytes were typed, if they could be read.
+fn read_time<R: Files>(rt: &R, time: &mut [u8]) -> Option<usize> {
+    let mut typing = streams::third(rt).ok()?;
+    let typed = streams::read_full(&mut typing, time);
+    if typed < time.len() {
+        if !ended(&mut typing) {
+            return None;
         }
     }
-    let mut quotes = io::large_buffer();
-    let n = io::read_full(0, &mut quotes);
+    Some(typed)
+}
+
+fn tell<W: Write, E: Write>(output: &mut W, errors: &mut E, quotes: &[u8], time: &[u8]) {
+    let mut text = [0u8; 4096];
+    let k = standing::print_best(quotes, time, &mut text);
+    if !streams::write_all(output, &text[..k]) {
+        streams::write_all(errors, b"finder: the text cannot be written\n");
+    }
+}
+
+fn main(rt: HostRuntime) {
+    let mut time = [0u8; 64];
+    let Some(typed) = read_time(&rt, &mut time) else {
+        streams::write_all(&mut rt.stderr(), b"finder: the time cannot be read\n");
+        return;
+    };
+    let mut quotes = [0u8; 65536];
+    let n = streams::read_full(&mut rt.stdin(), &mut quotes);
     if n < 65536 {
-        if !ended(0) {
-            io::write_all(2, b"finder: standard input cannot be read\n");
+        if !ended(&mut rt.stdin()) {
+            streams::write_all(&mut rt.stderr(), b"finder: standard input cannot be read\n");
             return;
         }
     }
     // A word that fills its buffer is longer than any time is written. The empty one, which is no time, stands for it.
     if typed < 64 {
-        tell(&quotes[..n], &time[..typed]);
+        tell(&mut rt.stdout(), &mut rt.stderr(), &quotes[..n], &time[..typed]);
     } else {
-        tell(&quotes[..n], b"");
+        tell(&mut rt.stdout(), &mut rt.stderr(), &quotes[..n], b"");
     }
 }

@@ -2,7 +2,9 @@
 // that a longer input, however long, is seen as one of 52,801 bytes and refused as every sheet above 52,800 is. No piece is longer than 96 bytes.
 #![tactic(auto)]
 
-ghost use Rattle.io.specs.Counts.{IsPrefixLen};
+ghost use Rattle.std.specs.Counts.{IsPrefixLen};
+
+use std::io::{Read, Write};
 
 // What was read: how many bytes, and whether a read failed. Then a part of the input must not be ruled as if it were all of it.
 #[derive(Drop)]
@@ -11,20 +13,18 @@ struct Input {
     failed: bool,
 }
 
-// Reads standard input until it ends, or the buffer does.
-fn read_sheet(sheet: &mut [u8]) -> Input
+// Reads the input until it ends, or the buffer does.
+fn read_sheet<R: Read>(input: &mut R, sheet: &mut [u8]) -> Input
     ensures { IsPrefixLen result.bytes sheet.new }
 {
     let mut done: usize = 0;
     while done < sheet.len() {
-        let got = libc::read(0, &mut sheet[done..]);
-        if got < 0 {
+        let Ok(more) = input.read(&mut sheet[done..]) else {
             return Input {
                 bytes: done,
                 failed: true,
             };
-        }
-        let more = io::count(got, &sheet[done..]);
+        };
         if more == 0 {
             break;
         }
@@ -37,11 +37,10 @@ fn read_sheet(sheet: &mut [u8]) -> Input
 }
 
 // Writes all of a line. Whether it could: a write that takes nothing has failed.
-fn write_line(to: i32, line: &[u8]) -> bool {
+fn write_line<W: Write>(to: &mut W, line: &[u8]) -> bool {
     let mut done: usize = 0;
     while done < line.len() {
-        let part = &line[done..];
-        let more = io::count(libc::write(to, part), part);
+        let more = to.write(&line[done..]).unwrap_or(0);
         if more == 0 {
             return false;
         }
@@ -51,7 +50,7 @@ fn write_line(to: i32, line: &[u8]) -> bool {
 }
 
 // Writes the report's pieces, until an empty one comes after the last. Whether they could be written.
-fn write_report(sheet: &[u8]) -> bool {
+fn write_report<W: Write>(to: &mut W, sheet: &[u8]) -> bool {
     let mut line = [0u8; 96];
     let mut k: usize = 0;
     loop {
@@ -59,22 +58,22 @@ fn write_report(sheet: &[u8]) -> bool {
         if n == 0 {
             return true;
         }
-        if !write_line(1, &line[..n]) {
+        if !write_line(to, &line[..n]) {
             return false;
         }
         k += 1;
     }
 }
 
-fn main() {
+fn main(rt: HostRuntime) {
     let mut sheet = [0u8; 52801];
-    let input = read_sheet(&mut sheet);
+    let input = read_sheet(&mut rt.stdin(), &mut sheet);
     if input.failed {
-        write_line(2, b"printer: standard input cannot be read\n");
+        write_line(&mut rt.stderr(), b"printer: standard input cannot be read\n");
         return;
     }
     let n = input.bytes;
-    if !write_report(&sheet[..n]) {
-        write_line(2, b"printer: the report cannot be written\n");
+    if !write_report(&mut rt.stdout(), &sheet[..n]) {
+        write_line(&mut rt.stderr(), b"printer: the report cannot be written\n");
     }
 }

@@ -39,6 +39,11 @@ pub part_laid : (at : ℕ) (w xs ys : List ℕ) → at ≤ length xs → ys ≡ 
 unfolding laid_at
 part_laid at w xs ys h e = laid_part (take at xs) w xs xs ys at (laid_before at xs h) (sym (length-take-le at xs h)) e
 
+-- a word copied over as many bytes of the part from a place on
+pub copied_at : (at n : ℕ) (w xs ys : List ℕ) → at ≤ length xs → n ≡ length w → ys ≡ w → put_mid at n xs ys ≡ laid_at at w xs
+unfolding laid laid_at
+copied_at at n w xs ys h e f = rw (f, e, length-append, length-take-le at xs h, append_assoc, drop-drop)
+
 -- at the start, and after what is laid already
 pub laid_first : (w l : List ℕ) → laid_at 0 w l ≡ laid w l
 unfolding laid_at

@@ -41,7 +41,9 @@ pub fn add_word(out: &mut [u8], at: usize, word: &[u8]) -> usize
     requires { at + length word.now ≤ length out.old }
     ensures { (result ≡ at + length word.now) × (out.new ≡ laid_at at word.now out.old) }
 {
-    at + bytes::copy(word, &mut out[at..])
+    let end = at + word.len();
+    out[at..end].copy_from_slice(word);
+    end
 }
 
 // One byte.

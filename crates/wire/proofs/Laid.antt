@@ -1,5 +1,5 @@
 -- The laws of `laid`.
-use Prim.Native.Nat.{ℕ, ◌+◌, ◌-◌, ◌≤◌}
+use Prim.Native.Nat.{ℕ, ◌-◌, ◌≤◌}
 use mathlib.Core.Path.{◌≡◌, refl, sym, ap, ◌∙◌}
 use mathlib.Core.List.{List, [], ◌++◌, append_assoc, append-nil}
 use native.Mathlib.Nat.{zero-add}
@@ -19,7 +19,7 @@ pub laid_before : (at : ℕ) (l : List ℕ) → at ≤ length l → l ≡ laid (
 unfolding laid
 laid_before at l h = rw (length-take-le at l h, take-append-drop)
 
--- all of an array copied over the start of the buffer, as `bytes::copy` states it
+-- all of an array copied over the start of the buffer
 pub copied : (n : ℕ) (a w l : List ℕ) → n ≡ length a → a ≡ w → take n a ++ drop n l ≡ laid w l
 unfolding laid
 copied n a w l e f = rw (e, f, take-length)

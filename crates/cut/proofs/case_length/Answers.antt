@@ -13,7 +13,7 @@ pub returns-then-s-lt4 : goal.returns-then-s-lt4
 returns-then-s-lt4 c = sym (none_short _ c.if-s-lt4.true)
 
 pub returns-then-not-is_known : goal.returns-then-not-is_known
-returns-then-not-is_known c = let s = c.args.s.now in let e = fails c.is_known.result c.if-not-is_known.true in
+returns-then-not-is_known c = let s = c.args.s.now in let e = c.if-not-is_known.true in
     let k : known (size_in s) (kind_in s) ≡ false = cc in
     sym (none_unknown s k)
 
@@ -22,7 +22,7 @@ returns-then-s-n c = let s = c.args.s.now in let l : length s < size_in s = omeg
     sym (none_cut s l)
 
 pub returns : goal.returns
-returns c = let s = c.args.s.now in let e = holds c.is_known.result c.if-not-is_known.false in
+returns c = let s = c.args.s.now in let e = c.if-not-is_known.false in
     let k : known (size_in s) (kind_in s) ≡ true = cc in
     let l : size_in s ≤ length s = omega arith in
     let r : c.read_u16-size.result ≡ size_in s = cc in

@@ -12,8 +12,8 @@ counted n = leb 1 n && leb n 1000000
 
 pub returns-then-not-t : goal.returns-then-not-t
 unfolding counts_ok
-returns-then-not-t c = simp (fails (counted c.args.t.contracts.0) c.if-not-t.true)
+returns-then-not-t c = simp c.if-not-t.true
 
 pub returns : goal.returns
 unfolding counts_ok
-returns c = simp (holds (counted c.args.t.contracts.0) c.if-not-t.false) (ap₂ ◌&&◌ c.quote_ok.ensures c.quote_ok-2.ensures)
+returns c = simp c.if-not-t.false (ap₂ ◌&&◌ c.quote_ok.ensures c.quote_ok-2.ensures)

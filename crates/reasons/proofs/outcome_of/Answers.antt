@@ -23,8 +23,8 @@ returns-in-11-to-13 c = search ranges
 
 pub returns-in_default : goal.returns-in_default
 unfolding reason_outcome
-returns-in_default c = let r = c.args.reason in simp (range_low 1 5 r (omega arith), range_low 6 10 r (omega arith), range_low 11 13 r (omega arith), ne_eqb r 14 c.in_default-1.rest.1)
+returns-in_default c = let r = c.args.reason in simp (range_low 1 5 r (omega arith), range_low 6 10 r (omega arith), range_low 11 13 r (omega arith), ne_eqb r 14 c.in_default.in_default-own.rest.1)
 
 pub returns-in_default-2 : goal.returns-in_default-2
 unfolding reason_outcome
-returns-in_default-2 c = let r = c.args.reason in simp (range_high 1 5 r (omega arith), range_high 6 10 r (omega arith), range_high 11 13 r (omega arith), ne_eqb r 14 c.in_default-1.rest.1)
+returns-in_default-2 c = let r = c.args.reason in simp (range_high 1 5 r (omega arith), range_high 6 10 r (omega arith), range_high 11 13 r (omega arith), ne_eqb r 14 c.in_default.in_default-own.rest.1)

@@ -1,0 +1,6 @@
+use Rattle.best.proofs.Answers.{answered}
+use borrow.Author.Rules.{rules}
+use Rattle.best.proofs.answer.Goals as goal
+
+pub returns : goal.returns
+returns c = answered _ _ _ _ _ _ c.walk_back-back.ensures c.best_of-bid.ensures c.best_of-offer.ensures

@@ -1,0 +1,16 @@
+use Rattle.best.proofs.Said.{best_start, best_turn}
+use Rattle.best.specs.Places.{said}
+use Rattle.best.specs.Best.{best_price}
+use lib.ListN.{length, drop}
+use borrow.Author.Rules.{rules}
+use native.Mathlib.Omega.{arith}
+use mathlib.Core.Path.{◌≡◌}
+use Prim.Native.Nat.{◌≤◌}
+use Rattle.best.proofs.best_price.Goals as goal
+
+pub loop-i-init : goal.loop-i-init
+loop-i-init c = let h : length c.args.last ≡ 16 = omega arith in
+    (omega arith, (h, best_start _ _ c.args.last 16 (omega arith)))
+
+pub loop-i-preserved : goal.loop-i-preserved
+loop-i-preserved c = let a = c.args in (omega arith, (c.loop-i.invariant.1.0, best_turn _ _ a.last c.loop-i.i _ _ _ (omega arith) (omega arith) c.said_at-q.ensures c.loop-i.invariant.1.1 c.better-best.ensures))

@@ -1,0 +1,18 @@
+use Rattle.best.proofs.Sought.{met_last, passed, nobody_met}
+use Rattle.earlier.specs.Earlier.{earlier}
+use Rattle.best.specs.Lasts.{last_of}
+use Rattle.quotes.specs.Quotes.{posted_from, posted_in}
+use lib.ListN.{length}
+use native.Mathlib.Omega.{arith}
+use mathlib.Core.Path.{◌≡◌, refl, ◌∙◌}
+use Prim.Native.Nat.{◌≤◌, ◌/◌}
+use Rattle.best.proofs.last_before.Goals as goal
+
+pub returns-then-q-trade_time : goal.returns-then-q-trade_time
+returns-then-q-trade_time c = met_last _ _ _ c.loop-n.n _ c.posted_at-q.ensures (omega arith) c.if-q-trade_time.true ∙ c.loop-n.invariant.1
+
+pub loop-n-preserved : goal.loop-n-preserved
+loop-n-preserved c = (omega arith, passed _ _ _ c.loop-n.n _ c.posted_at-q.ensures (omega arith) c.if-q-trade_time.false ∙ c.loop-n.invariant.1)
+
+pub returns : goal.returns
+returns c = nobody_met _ _ _ c.loop-n.n (omega arith) ∙ c.loop-n.invariant.1

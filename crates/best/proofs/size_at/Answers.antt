@@ -1,0 +1,16 @@
+use Rattle.best.proofs.Said.{size_start, size_turn}
+use Rattle.best.specs.Places.{said}
+use Rattle.best.specs.Best.{size_at}
+use lib.ListN.{length, drop}
+use borrow.Author.Rules.{rules}
+use native.Mathlib.Omega.{arith}
+use mathlib.Core.Path.{◌≡◌}
+use Prim.Native.Nat.{◌≤◌, ◌+◌, ◌*◌}
+use Rattle.best.proofs.size_at.Goals as goal
+
+pub loop-i-init : goal.loop-i-init
+loop-i-init c = let h : length c.args.last ≡ 16 = omega arith in
+    (omega arith, (h, (omega arith, size_start _ _ c.args.last _ 16 (omega arith))))
+
+pub loop-i-preserved : goal.loop-i-preserved
+loop-i-preserved c = let a = c.args in (omega arith, (c.loop-i.invariant.1.0, (omega arith, size_turn _ _ a.last _ c.loop-i.i _ _ _ (omega arith) (omega arith) c.said_at-q.ensures c.loop-i.invariant.1.1.1 c.size_if-size.ensures)))

@@ -1,0 +1,7 @@
+use Rattle.careful.specs.Careful.{turned_at}
+use borrow.Author.Rules.{rules}
+use Rattle.careful.proofs.turned_at.Goals as goal
+
+pub returns : goal.returns
+unfolding turned_at
+returns c = c.high_first.ensures

@@ -1,0 +1,16 @@
+use mathlib.Core.Path.{◌≡◌}
+use native.Mathlib.Omega.{arith}
+use Rattle.spelling.specs.Words.{At, None}
+use Rattle.spelling.specs.Dollars.{dollars_text}
+use borrow.Author.Rules.{rules}
+use Rattle.spelling.proofs.add_dollars.Goals as goal
+
+pub returns-in-At : goal.returns-in-At
+unfolding dollars_text
+returns-in-At c = let e : c.args.p ≡ At _ = c.in-At.is in
+    rw e c.add_mills.ensures
+
+pub returns-in-None : goal.returns-in-None
+unfolding dollars_text
+returns-in-None c = let e : c.args.p ≡ None = c.in-None.is in
+    rw e (c.add_word.ensures.0, c.add_word.ensures.1, omega (arith, c.add_word.ensures.0))

@@ -1,0 +1,14 @@
+use Prim.Native.Nat.{◌+◌, ◌/◌, ◌≤◌}
+use mathlib.Core.Path.{◌≡◌}
+use native.Mathlib.Omega.{arith}
+use lib.ListN.{length, length-set}
+use Rattle.text.specs.Text.{laid_at, decimal_of}
+use Rattle.text.proofs.Placed.{set_first, set_before}
+use Rattle.text.proofs.Decimal.{decimal_one, decimal_more, more_long, decimal_length}
+use Rattle.text.proofs.add_decimal.Given as goal
+
+abbrev pub invariant-loop-rest : goal.invariant-loop-rest
+invariant-loop-rest l = (laid_at l.at (decimal_of l.rest) l.out ≡ laid_at l.at (decimal_of l.n) l.initial.out) × (l.place ≡ l.at + length (decimal_of l.rest)) × (l.rest ≤ l.n) × (length l.out ≡ length l.initial.out)
+
+abbrev pub decreases-loop-rest : goal.decreases-loop-rest
+decreases-loop-rest l = l.rest

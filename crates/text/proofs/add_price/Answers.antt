@@ -1,0 +1,16 @@
+use mathlib.Core.Path.{◌≡◌}
+use Rattle.text.specs.Words.{At, None}
+use native.Mathlib.Omega.{arith}
+use Rattle.text.specs.Text.{price_text}
+use borrow.Author.Rules.{rules}
+use Rattle.text.proofs.add_price.Goals as goal
+
+pub returns-in-At : goal.returns-in-At
+unfolding price_text
+returns-in-At c = let e : c.args.p ≡ At _ = c.in-At.is in
+    rw e c.add_decimal.ensures
+
+pub returns-in-None : goal.returns-in-None
+unfolding price_text
+returns-in-None c = let e : c.args.p ≡ None = cc in
+    rw e (c.add_byte.ensures.0, c.add_byte.ensures.1, omega (arith, c.add_byte.ensures.0))
