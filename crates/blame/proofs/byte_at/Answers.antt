@@ -1,0 +1,6 @@
+use Rattle.blame.proofs.Ranges.{byte_number}
+use borrow.Author.Rules.{rules}
+use Rattle.blame.proofs.byte_at.Goals as goal
+
+pub returns : goal.returns
+returns c = simp (c.wide.ensures, byte_number)

@@ -1,0 +1,7 @@
+use Rattle.blame.specs.Fields.{lapse_field}
+use borrow.Author.Rules.{rules}
+use Rattle.blame.proofs.keep_lapse.Goals as goal
+
+pub returns : goal.returns
+unfolding lapse_field
+returns c = simp (c.keep.ensures, c.four_at-lapse.ensures)

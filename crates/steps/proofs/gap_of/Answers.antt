@@ -1,0 +1,8 @@
+use Rattle.width.specs.Width.{apart}
+use Rattle.steps.specs.Found.{gap_of}
+use borrow.Author.Rules.{rules}
+use Rattle.steps.proofs.gap_of.Goals as goal
+
+pub returns : goal.returns
+unfolding gap_of apart
+returns c = simp c.capped-reach.ensures
