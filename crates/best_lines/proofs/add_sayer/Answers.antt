@@ -15,10 +15,10 @@ pub returns-then-same : goal.returns-then-same
 unfolding sayer_line
 returns-then-same c = let e : c.args.last ≡ Sent _ = c.in-Sent.is in
     let t = sym c.same.ensures ∙ c.if-same.true in
-    rw (e, ← c.half_of_lem.ensures, t) c.add_quote.ensures
+    rw (e, ← c.half_of-side.ensures, t) c.add_quote.ensures
 
 pub returns : goal.returns
 unfolding sayer_line
 returns c = let e : c.args.last ≡ Sent _ = c.in-Sent.is in
     let t = sym c.same.ensures ∙ c.if-same.false in
-    no_line _ _ _ _ (rw (e, ← c.half_of_lem.ensures, t)) (omega arith)
+    no_line _ _ _ _ (rw (e, ← c.half_of-side.ensures, t)) (omega arith)

@@ -1,5 +1,4 @@
 use Rattle.blame.specs.Fields.{inside_blame}
-use borrow.Author.Rules.{rules}
 use Rattle.blame.proofs.blame_inside.Goals as goal
 
 pub returns : goal.returns

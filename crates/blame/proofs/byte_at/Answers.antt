@@ -1,5 +1,4 @@
 use Rattle.blame.proofs.Ranges.{byte_number}
-use borrow.Author.Rules.{rules}
 use Rattle.blame.proofs.byte_at.Goals as goal
 
 pub returns : goal.returns

@@ -1,6 +1,5 @@
 use Rattle.blame.specs.Fields.{capped}
 use borrow.Author.Tests.{lt-ltb, le-ltb}
-use borrow.Author.Rules.{rules}
 use Rattle.blame.proofs.capped.Goals as goal
 
 pub returns-then-n-lt4294967295 : goal.returns-then-n-lt4294967295

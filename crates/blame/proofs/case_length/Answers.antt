@@ -1,5 +1,4 @@
 use Rattle.blame.specs.Fields.{case_length}
-use borrow.Author.Rules.{rules}
 use Rattle.blame.proofs.case_length.Goals as goal
 
 pub returns : goal.returns

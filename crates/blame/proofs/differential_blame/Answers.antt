@@ -1,6 +1,5 @@
 use Rattle.forms.specs.Forms.{form_of}
 use borrow.Author.Tests.{lt-ltb, le-ltb}
-use borrow.Author.Rules.{rules}
 use Rattle.blame.proofs.differential_blame.Goals as goal
 
 pub returns-then-s-lt92 : goal.returns-then-s-lt92

@@ -1,7 +1,6 @@
 use mathlib.Core.Path.{ap}
 use mathlib.Core.Bool.{not}
 use Rattle.blame.proofs.Row.{length_stops, long_enough, bytes_tell}
-use borrow.Author.Rules.{rules}
 use Rattle.blame.proofs.find_blame.Goals as goal
 
 pub returns-then-not-field_ok : goal.returns-then-not-field_ok

@@ -1,5 +1,4 @@
 use Rattle.blame.specs.Fields.{head_length, head_kind}
-use borrow.Author.Rules.{rules}
 use Rattle.blame.proofs.head_blame.Goals as goal
 
 pub returns : goal.returns

@@ -1,6 +1,5 @@
 use Rattle.blame.specs.Fields.{keep}
 use mathlib.Core.Path.{sym, ◌∙◌}
-use borrow.Author.Rules.{rules}
 use Rattle.blame.proofs.keep.Goals as goal
 
 pub returns-then-field_ok : goal.returns-then-field_ok

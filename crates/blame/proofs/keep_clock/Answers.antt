@@ -1,5 +1,4 @@
 use Rattle.blame.specs.Fields.{clock_field}
-use borrow.Author.Rules.{rules}
 use Rattle.blame.proofs.keep_clock.Goals as goal
 
 pub returns : goal.returns

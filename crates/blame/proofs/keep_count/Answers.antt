@@ -1,5 +1,4 @@
 use Rattle.blame.specs.Fields.{count_field}
-use borrow.Author.Rules.{rules}
 use Rattle.blame.proofs.keep_count.Goals as goal
 
 pub returns : goal.returns

@@ -1,5 +1,4 @@
 use Rattle.blame.specs.Fields.{lapse_field}
-use borrow.Author.Rules.{rules}
 use Rattle.blame.proofs.keep_lapse.Goals as goal
 
 pub returns : goal.returns

@@ -1,5 +1,4 @@
 use Rattle.blame.specs.Fields.{money_field}
-use borrow.Author.Rules.{rules}
 use Rattle.blame.proofs.keep_money.Goals as goal
 
 pub returns : goal.returns

@@ -1,5 +1,4 @@
 use Rattle.blame.specs.Fields.{zero_field}
-use borrow.Author.Rules.{rules}
 use Rattle.blame.proofs.keep_zero.Goals as goal
 
 pub returns : goal.returns

@@ -1,5 +1,4 @@
 use Rattle.blame.specs.Fields.{limit_field}
-use borrow.Author.Rules.{rules}
 use Rattle.blame.proofs.limit_at.Goals as goal
 
 pub returns : goal.returns

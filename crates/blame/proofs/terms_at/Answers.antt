@@ -1,5 +1,4 @@
 use Rattle.blame.specs.Fields.{terms_field}
-use borrow.Author.Rules.{rules}
 use Rattle.blame.proofs.terms_at.Goals as goal
 
 pub returns : goal.returns
