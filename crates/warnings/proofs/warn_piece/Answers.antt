@@ -1,3 +1,4 @@
+use mathlib.Core.List.{[]}
 use native.Mathlib.Omega.{arith}
 use Prim.Native.Nat.{ℕ, zero-le}
 use mathlib.Core.Path.{refl, sym, ap, ◌∙◌}
@@ -13,7 +14,9 @@ put_at-requires c = let k = c.whole_cases-c.ensures in (k.1, rw k.1 (whole_few _
 
 pub returns-then-c : goal.returns-then-c
 returns-then-c c = let a = c.args in let s = a.sheet.now in
-    let k = c.whole_cases-c.ensures in let w = c.put_at.ensures in printed _ _ _ _ _ (whole_piece s a.k (sym k.0 ∙ c.if-c.true) ∙ ap (λ (m : ℕ). warned_at s m a.k) (sym k.1)) (w.0, w.1) (omega (arith, w.0, w.2))
+    let k = c.whole_cases-c.ensures in let w = c.put_at.ensures in let p = printed _ _ _ _ _ (whole_piece s a.k (sym k.0 ∙ c.if-c.true) ∙ ap (λ (m : ℕ). warned_at s m a.k) (sym k.1)) (w.0, w.1) (omega (arith, w.0, w.2)) in
+    record { value = p.0; upper_bound = p.1 }
 
 pub returns : goal.returns
-returns c = let a = c.args in printed _ _ _ _ _ (refused_piece_lem a.sheet.now a.k (sym c.whole_cases-c.ensures.0 ∙ c.if-c.false)) (refl, laid_none _) zero-le
+returns c = let a = c.args in let p = printed _ [] _ _ 0 (refused_piece_lem a.sheet.now a.k (sym c.whole_cases-c.ensures.0 ∙ c.if-c.false)) (refl, laid_none _) zero-le in
+    record { value = p.0; upper_bound = p.1 }
