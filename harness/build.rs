@@ -1,4 +1,4 @@
-//! Links the proved desk and the proved counter, the static libraries that `rt staticlib desk` and `rt staticlib counter` write.
+//! Links the proved desk and the proved counter, the static libraries that `bin/staticlib` builds.
 
 use std::env;
 use std::path::PathBuf;
@@ -12,8 +12,8 @@ fn main() {
         println!("cargo::rerun-if-changed={}", archive.display());
         if !archive.exists() {
             println!(
-                "cargo::error=the proved {name} is not there: run `rt staticlib {name}` at the root \
-                 of the repository, which writes {}",
+                "cargo::error=the proved {name} is not there: run `bin/staticlib` at the root of the \
+                 repository, which writes {}",
                 archive.display()
             );
         }

@@ -1,5 +1,5 @@
-/* The desk: a trade that a member calls erroneous, ruled by the page (docs/RULE.md). The functions stand in libdesk.a, which
- * `rt staticlib desk` writes, but for desk_explain_case, which stands in libcounter.a (`rt staticlib counter`); they are proved to
+/* The desk: a trade that a member calls erroneous, ruled by the page (docs/RULE.md). The functions stand in libdesk.a, but for
+ * desk_explain_case, which stands in libcounter.a; bin/staticlib builds both, from the crates desk_c and counter_c. They are proved to
  * keep what is said here.
  *
  * They ask nothing of the caller but valid pointers, each to as many bytes as its length says, and buffers that do not

@@ -1,4 +1,4 @@
-// The counter for other programs: one function, in C's calling form (include/desk.h declares it). It stands apart from `desk`, in a library of its own,
+// The counter for other programs: one function, which stands in C's calling form in `counter_c`. It stands apart from `desk`, in a library of its own,
 // so that the code that rules cases is compiled as if nobody explained them. It passes its callee's promise on, and asks nothing beyond what its
 // types say.
 #![tactic(auto)]
@@ -8,8 +8,7 @@ ghost use Rattle.wire.specs.Laid.{laid};
 ghost use Rattle.explanation.specs.Explained.{explained_of};
 
 // Explains a case, for the desk alone: how many bytes of the buffer are the text.
-#[unsafe(no_mangle)]
-pub extern "C" fn desk_explain_case(case: &[u8], out: &mut [u8; 20480]) -> u64
+pub fn desk_explain_case(case: &[u8], out: &mut [u8; 20480]) -> u64
     ensures { (result ≡ length (explained_of case.now)) × (out.new ≡ laid (explained_of case.now) out.old) }
 {
     explanation::explain_case(case, out) as u64

@@ -5,7 +5,7 @@
 -- the function asks of its caller. `Ends` says in which ways a call ends.
 use Rattle.std.specs.Prelude.{ℕ, ◌≤◌, ◌<◌, ◌≡◌, true, false, ◌⊎◌, List, [], ◌∷◌, ◌++◌, length, leb}
 use contract.Lifetimes.{Lfts}
-use Rattle.std.specs.Borrow.{Bor}
+use Rattle.std.specs.Borrow.{Bor, MutBor}
 use Rattle.wire.specs.Laid.{laid}
 use Rattle.forms.specs.Forms.{form_length}
 use Rattle.record.specs.Record.{facts_of, record_bytes}
@@ -34,7 +34,7 @@ use Rattle.demands.specs.Why as why
 
 -- No caller tests anything first: whatever they are given, the entry points ask nothing beyond their types (the buffer of `print_sheet` has 65,536
 -- bytes by its type).
-pub nothing_asked : (κ : Lfts 1) (κs : Lfts 2) (s b : Bor (List ℕ)) (f : Facts)
+pub nothing_asked : (κ : Lfts 1) (κs : Lfts 2) (s : Bor (List ℕ)) (b : MutBor (List ℕ)) (f : Facts)
     → cases.check_case.Reads.Asked κ (s, tt)
     × cases.read_case.Reads.Asked κ (s, tt)
     × cases.write_case.Reads.Asked κ (f, (b, tt))
@@ -79,7 +79,7 @@ write_answered f room =
     why.answered size room write_numbers _ (record_bytes f) (why.told ((11, leb size room) ∷ fact_tests f)) (why.write_fits f room) (long_as_form f.form f)
 
 -- So every call of `write_case`.
-pub write_case_ends : (κ : Lfts 1) (f f' : Facts) (out out' : Bor (List ℕ)) (r : ℕ)
+pub write_case_ends : (κ : Lfts 1) (f f' : Facts) (out out' : MutBor (List ℕ)) (r : ℕ)
     → cases.write_case.Reads.Post κ (f, (out, tt)) r (f', (out', tt)) → Ended (form_length f.form) write_numbers r out.now out'.now
 write_case_ends κ f f' out out' r p = why.ended (form_length f.form) write_numbers _ r _ _ (write_answered f (length out.now)) (p.0, p.1)
 
@@ -91,7 +91,7 @@ unfolding case_of case_refusal_of
 case_answered s room = why.answered 96 room case_numbers _ _ (why.told (case_tests s room)) (why.case_fits s room) (answer.Cases.answer_length (facts_of s))
 
 -- So every call of `rule_case` and `desk_rule_case`.
-module _ (κs : Lfts 2) (s s' out out' : Bor (List ℕ)) (r : ℕ) where
+module _ (κs : Lfts 2) (s s' : Bor (List ℕ)) (out out' : MutBor (List ℕ)) (r : ℕ) where
   pub rule_case_ends : answer.rule_case.Reads.Post κs (s, (out, tt)) r (s', (out', tt)) → Ended 96 case_numbers r out.now out'.now
   rule_case_ends p = why.ended 96 case_numbers _ r _ _ (case_answered s.now (length out.now)) p
 
@@ -105,7 +105,7 @@ pub sheet_answered : (s : List ℕ) (room : ℕ) → SheetAnswered s room (sheet
 sheet_answered = why.sheet_answered
 
 -- So every call of `rule_sheet` and `desk_rule_sheet`.
-module _ (κs : Lfts 2) (s s' out out' : Bor (List ℕ)) where
+module _ (κs : Lfts 2) (s s' : Bor (List ℕ)) (out out' : MutBor (List ℕ)) where
   pub rule_sheet_ends : (r : SheetAnswer) → sheet.rule_sheet.Reads.Post κs (s, (out, tt)) r (s', (out', tt))
       → SheetEnded (λ a. a) s.now r out.now out'.now
   rule_sheet_ends r p = why.sheet_ended (λ a. a) s.now r _ _ _ (sheet_answered s.now (length out.now)) p
@@ -150,7 +150,7 @@ pub text_fits : (s : List ℕ) → length (text_of s) ≤ 65536
 text_fits = why.text_fits
 
 -- So every call of `print_sheet` and `desk_print_sheet`.
-module _ (κs : Lfts 2) (s s' out out' : Bor (List ℕ)) (r : ℕ) where
+module _ (κs : Lfts 2) (s s' : Bor (List ℕ)) (out out' : MutBor (List ℕ)) (r : ℕ) where
   pub print_sheet_ends : report.print_sheet.Reads.Post κs (s, (out, tt)) r (s', (out', tt))
       → (r ≡ length (text_of s.now)) × (r ≤ 65536) × (out'.now ≡ laid (text_of s.now) out.now)
   print_sheet_ends p = (p.0.0, rw p.0.0 (text_fits s.now), p.0.1)

@@ -4,7 +4,7 @@
 -- arguments afterwards.
 use Rattle.std.specs.Prelude.{ℕ, ◌≤◌, ◌≡◌, List, length}
 use contract.Lifetimes.{Lfts}
-use Rattle.std.specs.Borrow.{Bor}
+use Rattle.std.specs.Borrow.{Bor, MutBor}
 use Rattle.wire.specs.Laid.{laid}
 use Rattle.record.specs.Record.{facts_of}
 use Rattle.cases.specs.Words.{Facts}
@@ -32,7 +32,7 @@ Said answer bytes r before after = (r ≡ answer) × (after ≡ laid bytes befor
 -- ---- facts
 
 -- They are written as the record's table says, or refused by the table of numbers.
-pub write_case_says : (κ : Lfts 1) (f f' : Facts) (out out' : Bor (List ℕ)) (r : ℕ) → cases.write_case.Reads.Post κ (f, (out, tt)) r (f', (out', tt))
+pub write_case_says : (κ : Lfts 1) (f f' : Facts) (out out' : MutBor (List ℕ)) (r : ℕ) → cases.write_case.Reads.Post κ (f, (out, tt)) r (f', (out', tt))
     → let a = writing_of f (length out.now) in Said a.0 a.1 r out.now out'.now
 write_case_says κ f f' out out' r p = (p.0, p.1)
 
@@ -53,7 +53,7 @@ module _ (κ : Lfts 1) (s s' : Bor (List ℕ)) where
   pub read_case_says : (r : Reading) → cases.read_case.Reads.Post κ (s, tt) r (s', tt) → r ≡ reading_of s.now
   read_case_says r p = p.0
 
-module _ (κs : Lfts 2) (s s' out out' : Bor (List ℕ)) where
+module _ (κs : Lfts 2) (s s' : Bor (List ℕ)) (out out' : MutBor (List ℕ)) where
   -- They are answered by the ruling record and the two notices, or refused.
   pub rule_case_says : (r : ℕ) → answer.rule_case.Reads.Post κs (s, (out, tt)) r (s', (out', tt))
       → let a = case_of s.now (length out.now) in Said a.0 a.1 r out.now out'.now

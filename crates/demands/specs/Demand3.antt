@@ -4,7 +4,7 @@
 use Rattle.std.specs.Prelude.{ℕ, ◌+◌, ◌≤◌, ◌<◌, ◌≡◌, refl, List, [], ◌∷◌, ◌++◌, length, get_or, set, take}
 use Rattle.std.proofs.Common.{sym, ap, subst, ◌∙◌, ⊎_elim, arith, get_or-set_other, lit≤, lit<}
 use contract.Lifetimes.{Lfts}
-use Rattle.std.specs.Borrow.{Bor}
+use Rattle.std.specs.Borrow.{Bor, MutBor}
 use Rattle.std.proofs.lemmas.Bool.{eqb-false}
 use Rattle.wire.specs.Laid.{laid}
 use Rattle.wire.specs.Numbers.{stored, number_at}
@@ -153,7 +153,7 @@ sheets_differ = (λ e. eqb-false 65 67 refl (ap (λ (l : List ℕ). get_or l 140
 -- ---- so every call: what is said above of the definitions, of the promises as Rattle reads them from the contracts
 
 -- Two calls of `rule_case`, or of `desk_rule_case`, that rule such cases, in the 96 bytes that they leave.
-module _ (who : Side) (κs κs' : Lfts 2) (s s' t t' out out' o o' : Bor (List ℕ)) (n m : ℕ) (same : AlikeBut who s.now t.now)
+module _ (who : Side) (κs κs' : Lfts 2) (s s' t t' : Bor (List ℕ)) (out out' o o' : MutBor (List ℕ)) (n m : ℕ) (same : AlikeBut who s.now t.now)
     (untold : UntoldBytes who s.now t.now) where
   abbrev BlindCalls : Type 0
   BlindCalls = n ≡ 0 → m ≡ 0 → Blind who s.now t.now (take 96 out'.now) (take 96 o'.now)
@@ -172,7 +172,7 @@ module _ (who : Side) (κs κs' : Lfts 2) (s s' t t' out out' o o' : Bor (List �
 
 -- Two calls of `rule_sheet`, or of `desk_rule_sheet`, on such sheets with as much room: the same answer, and buffers in which a and b were
 -- written over the start, as said above.
-module _ (who : Side) (κs κs' : Lfts 2) (s s' t t' out out' o o' : Bor (List ℕ)) (j : ℕ) (alike : AlikeButOne who s.now t.now j)
+module _ (who : Side) (κs κs' : Lfts 2) (s s' t t' : Bor (List ℕ)) (out out' o o' : MutBor (List ℕ)) (j : ℕ) (alike : AlikeButOne who s.now t.now j)
     (room : length out.now ≡ length o.now) where
   abbrev BlindBuffers : ℕ → Type 0
   BlindBuffers n =

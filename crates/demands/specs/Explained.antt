@@ -3,7 +3,7 @@
 use Rattle.std.specs.Prelude.{ℕ, ◌-◌, ◌≤◌, ◌<◌, ◌≡◌, Bool, true, false, List, ◌++◌, length, take, leb, eqb}
 use Rattle.std.proofs.Common.{sym, ap, ◌∙◌}
 use contract.Lifetimes.{Lfts}
-use Rattle.std.specs.Borrow.{Bor}
+use Rattle.std.specs.Borrow.{Bor, MutBor}
 use Rattle.wire.specs.Laid.{laid, row}
 use Rattle.wire.specs.Numbers.{number_at}
 use Rattle.wire.proofs.Rows.{row_same}
@@ -223,7 +223,7 @@ module _ (k : ℕ) (s : List ℕ) where
 -- ---- of calls
 
 -- No caller tests anything first: whatever they are given, these ask nothing beyond their types, by which the buffers have 20,480 and 8,192 bytes.
-pub nothing_asked : (κ : Lfts 1) (κs : Lfts 2) (s b : Bor (List ℕ)) (k : ℕ) (want : Wanted)
+pub nothing_asked : (κ : Lfts 1) (κs : Lfts 2) (s : Bor (List ℕ)) (b : MutBor (List ℕ)) (k : ℕ) (want : Wanted)
     → explanation.explain_case.Reads.Asked κs (s, (b, tt))
     × explanation.explain_piece.Reads.Asked κs (s, (k, (want, (b, tt))))
     × explanation.count_pieces.Reads.Asked κ (s, tt)
@@ -232,7 +232,7 @@ pub nothing_asked : (κ : Lfts 1) (κs : Lfts 2) (s b : Bor (List ℕ)) (k : ℕ
 nothing_asked κ κs s b k want = (tt, tt, tt, tt, tt)
 
 -- So every call of `explain_case` and `desk_explain_case`, of any bytes: the first bytes of the buffer, as many as it answers, are the explanation, and every byte after them is kept.
-module _ (κs : Lfts 2) (s s' out out' : Bor (List ℕ)) (r : ℕ) where
+module _ (κs : Lfts 2) (s s' : Bor (List ℕ)) (out out' : MutBor (List ℕ)) (r : ℕ) where
   pub explain_case_says : explanation.explain_case.Reads.Post κs (s, (out, tt)) r (s', (out', tt))
       → (take r out'.now ≡ explained_of s.now) × (r ≤ length out'.now) × (out'.now ≡ laid (explained_of s.now) out.now)
   explain_case_says p = (why.laid_taken r (explained_of s.now) out.now out'.now p.0, p.1.0, p.0.1)
@@ -245,7 +245,7 @@ module _ (κs : Lfts 2) (s s' out out' : Bor (List ℕ)) (r : ℕ) where
 -- bytes as each answered, is the explanation of the sheet.
 pub pieces_explain : (sheet : List ℕ) (want : Wanted) (n : ℕ) (κ : Lfts 1) (c c' : Bor (List ℕ))
     → (c.now ≡ sheet) × explanation.count_pieces.Reads.Post κ (c, tt) n (c', tt)
-    → (κs : ℕ → Lfts 2) (s s' out out' : ℕ → Bor (List ℕ)) (k' r : ℕ → ℕ) (want' : ℕ → Wanted)
+    → (κs : ℕ → Lfts 2) (s s' : ℕ → Bor (List ℕ)) (out out' : ℕ → MutBor (List ℕ)) (k' r : ℕ → ℕ) (want' : ℕ → Wanted)
     → ((k : ℕ) → k < n
     → ((s k).now ≡ sheet) × explanation.explain_piece.Reads.Post (κs k) (s k, (k, (want, (out k, tt)))) (r k) (s' k, (k' k, (want' k, (out' k, tt)))))
     → row (λ k. take (r k) (out' k).now) n ≡ explanation_of sheet want
@@ -258,7 +258,7 @@ pieces_explain sheet want n κ c c' counted κs s s' out out' k' r want' calls =
     ∙ ap (row (explained_piece sheet want)) (rw counted.0 at counted.1.0)
 
 -- And every run of calls of `warn_piece` on one sheet, for the 600 cases that it has at most: what they wrote is what is told beside its printed rulings.
-pub pieces_warn : (sheet : List ℕ) (κs : ℕ → Lfts 2) (s s' out out' : ℕ → Bor (List ℕ)) (k' r : ℕ → ℕ)
+pub pieces_warn : (sheet : List ℕ) (κs : ℕ → Lfts 2) (s s' : ℕ → Bor (List ℕ)) (out out' : ℕ → MutBor (List ℕ)) (k' r : ℕ → ℕ)
     → ((k : ℕ) → k < 600 → ((s k).now ≡ sheet) × warnings.warn_piece.Reads.Post (κs k) (s k, (k, (out k, tt))) (r k) (s' k, (k' k, (out' k, tt))))
     → row (λ k. take (r k) (out' k).now) 600 ≡ warnings_of sheet
 unfolding warnings_of

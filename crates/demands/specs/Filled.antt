@@ -4,7 +4,7 @@
 use Rattle.std.specs.Prelude.{ℕ, ◌≤◌, ◌≡◌, List, ◌++◌, length}
 use Rattle.std.proofs.Common.{sym, ap, ◌∙◌}
 use contract.Lifetimes.{Lfts}
-use Rattle.std.specs.Borrow.{Bor}
+use Rattle.std.specs.Borrow.{Bor, MutBor}
 use Rattle.record.specs.Record.{facts_of}
 use Rattle.cases.specs.declared.Reading.{Reading}
 use Rattle.cases.specs.Cases.{refusal_of, accepted, reading_of}
@@ -28,14 +28,14 @@ use Rattle.demands.specs.Quotes.{ChangesNothing, same_found}
 use Rattle.demands.specs.Why as why
 
 -- ---- demand 1: nothing is asked; a case is filled, and every byte outside 20 to 35 is kept, or it gets one of 1 to 9 and 20 to 22 and is as it was
-pub nothing_asked : (κs : Lfts 2) (κ : Lfts 3) (q s b : Bor (List ℕ))
+pub nothing_asked : (κs : Lfts 2) (κ : Lfts 3) (q c : Bor (List ℕ)) (s b : MutBor (List ℕ))
     → filling.fill_case.Reads.Asked κs (q, (s, tt))
-    × filling.check_fill.Reads.Asked κs (q, (s, tt))
+    × filling.check_fill.Reads.Asked κs (q, (c, tt))
     × fillings.fill_sheet.Reads.Asked κs (q, (s, tt))
-    × fillings.check_filling.Reads.Asked κs (q, (s, tt))
-    × fill_report.print_filling.Reads.Asked κ (q, (s, (b, tt)))
+    × fillings.check_filling.Reads.Asked κs (q, (c, tt))
+    × fill_report.print_filling.Reads.Asked κ (q, (c, (b, tt)))
     × desk.desk_fill_case.Reads.Asked κs (q, (s, tt))
-nothing_asked κs κ q s b = (tt, tt, tt, tt, tt, tt)
+nothing_asked κs κ q c s b = (tt, tt, tt, tt, tt, tt)
 
 pub fill_ended : (q s : List ℕ) → FillEnded (filling_of q s).0 s (filling_of q s).1
 fill_ended = why.fill_ended
@@ -69,13 +69,14 @@ pub sheet_filled : (q s : List ℕ) → SheetFilled q s (fill_sheet_of q s).0 (f
 sheet_filled = why.sheet_filled
 
 -- So every call of `fill_sheet`; and `check_fill` and `check_filling` tell the numbers, the first with the quotes read, and write nothing.
-module _ (κs : Lfts 2) (q q' s s' : Bor (List ℕ)) (n : ℕ) where
+module _ (κs : Lfts 2) (q q' : Bor (List ℕ)) (s s' : MutBor (List ℕ)) (n : ℕ) where
   pub fill_sheet_says : fillings.fill_sheet.Reads.Post κs (q, (s, tt)) n (q', (s', tt)) → (n ≡ (fill_sheet_of q.now s.now).0) × (s'.now ≡ (fill_sheet_of q.now s.now).1)
   fill_sheet_says p = p
 
   pub fill_sheet_ends : fillings.fill_sheet.Reads.Post κs (q, (s, tt)) n (q', (s', tt)) → SheetFilled q.now s.now n s'.now
   fill_sheet_ends p = rw (p.0, p.1) (sheet_filled q.now s.now)
 
+module _ (κs : Lfts 2) (q q' s s' : Bor (List ℕ)) (n : ℕ) where
   pub check_fill_says : (r : Tried) → filling.check_fill.Reads.Post κs (q, (s, tt)) r (q', (s', tt)) → (r.refusal ≡ (filling_of q.now s.now).0) × (r.examined ≡ fill_read_of q.now s.now)
   check_fill_says r p = (ap (λ (x : Tried). x.refusal) p, ap (λ (x : Tried). x.examined) p)
 
@@ -83,7 +84,7 @@ module _ (κs : Lfts 2) (q q' s s' : Bor (List ℕ)) (n : ℕ) where
   check_filling_says p = p ∙ sym (why.sheet_number q.now s.now)
 
 -- Two calls of `fill_sheet`, the second on the sheet that the first left, with the same quotes: the same number, and the same sheet.
-pub fill_sheet_twice : (κs κs' : Lfts 2) (q q' p p' s s' u u' : Bor (List ℕ)) (n m : ℕ) → p.now ≡ q.now → u.now ≡ s'.now
+pub fill_sheet_twice : (κs κs' : Lfts 2) (q q' p p' : Bor (List ℕ)) (s s' u u' : MutBor (List ℕ)) (n m : ℕ) → p.now ≡ q.now → u.now ≡ s'.now
     → fillings.fill_sheet.Reads.Post κs (q, (s, tt)) n (q', (s', tt)) → fillings.fill_sheet.Reads.Post κs' (p, (u, tt)) m (p', (u', tt))
     → (m ≡ n) × (u'.now ≡ s'.now)
 fill_sheet_twice κs κs' q q' p p' s s' u u' n m quotes left a b =
@@ -96,7 +97,7 @@ pub text_fits : (q s : List ℕ) → length (fill_text q s) ≤ 131072
 text_fits = fill_report.Lengths.text_most
 
 -- So every call of `print_filling`: the text stands over the start of the buffer, every byte after it is kept, and its length is answered.
-pub print_filling_says : (κs : Lfts 3) (q q' s s' out out' : Bor (List ℕ)) (r : ℕ)
+pub print_filling_says : (κs : Lfts 3) (q q' s s' : Bor (List ℕ)) (out out' : MutBor (List ℕ)) (r : ℕ)
     → fill_report.print_filling.Reads.Post κs (q, (s, (out, tt))) r (q', (s', (out', tt)))
     → Said (length (fill_text q.now s.now)) (fill_text q.now s.now) r out.now out'.now × (r ≤ 131072)
 print_filling_says κs q q' s s' out out' r p = (p.0, rw p.0.0 (text_fits q.now s.now))
@@ -107,7 +108,7 @@ print_filling_says κs q q' s s' out out' r p = (p.0, rw p.0.0 (text_fits q.now 
 abbrev pub Filled : List ℕ → List ℕ → ℕ → List ℕ → Type 0
 Filled q s n after = (n ≡ (filling_of q s).0) × (after ≡ (filling_of q s).1)
 
-module _ (κs : Lfts 2) (q q' s s' : Bor (List ℕ)) (n : ℕ) where
+module _ (κs : Lfts 2) (q q' : Bor (List ℕ)) (s s' : MutBor (List ℕ)) (n : ℕ) where
   -- demand 2
   pub fill_case_says : filling.fill_case.Reads.Post κs (q, (s, tt)) n (q', (s', tt)) → Filled q.now s.now n s'.now
   fill_case_says p = p
@@ -130,13 +131,13 @@ module _ (κs : Lfts 2) (q q' s s' : Bor (List ℕ)) (n : ℕ) where
       read.0 ∙ ap reading_of (left ∙ p.1) ∙ (filled_accepted q.now s.now (sym p.0 ∙ done)).1
 
 -- `desk_fill_case`, and then `desk_check_case` of what it left: accepted.
-pub desk_fill_case_checked : (κs : Lfts 2) (κ : Lfts 1) (q q' s s' c c' : Bor (List ℕ)) (n m : ℕ) → desk.desk_fill_case.Reads.Post κs (q, (s, tt)) n (q', (s', tt)) → n ≡ 0
+pub desk_fill_case_checked : (κs : Lfts 2) (κ : Lfts 1) (q q' : Bor (List ℕ)) (s s' : MutBor (List ℕ)) (c c' : Bor (List ℕ)) (n m : ℕ) → desk.desk_fill_case.Reads.Post κs (q, (s, tt)) n (q', (s', tt)) → n ≡ 0
     → c.now ≡ s'.now → desk.desk_check_case.Reads.Post κ (c, tt) m (c', tt) → m ≡ 0
 desk_fill_case_checked κs κ q q' s s' c c' n m p done left check =
     check ∙ ap refusal_of (left ∙ p.1) ∙ (floor.fill_facts q.now s.now (sym p.0 ∙ done)).0
 
 -- Two calls, the second on the case that the first left, with the same quotes: the same number, and the same case.
-module _ (κs κs' : Lfts 2) (q q' p p' s s' u u' : Bor (List ℕ)) (n m : ℕ) (quotes : p.now ≡ q.now) (left : u.now ≡ s'.now) where
+module _ (κs κs' : Lfts 2) (q q' p p' : Bor (List ℕ)) (s s' u u' : MutBor (List ℕ)) (n m : ℕ) (quotes : p.now ≡ q.now) (left : u.now ≡ s'.now) where
   twice : Filled q.now s.now n s'.now → Filled p.now u.now m u'.now → (m ≡ n) × (u'.now ≡ s'.now)
   twice a b =
       let again : filling_of p.now u.now ≡ filling_of q.now s.now =
@@ -152,7 +153,7 @@ module _ (κs κs' : Lfts 2) (q q' p p' s s' u u' : Bor (List ℕ)) (n m : ℕ) 
   desk_fill_case_twice a b = twice a b
 
 -- Two calls on the same case, one with the quotes r between a and b and one without them, which change nothing: the same number, and the same case.
-module _ (κs κs' : Lfts 2) (a r b : List ℕ) (q q' p p' s s' u u' : Bor (List ℕ)) (n m : ℕ) (wa : Whole a) (wr : Whole r)
+module _ (κs κs' : Lfts 2) (a r b : List ℕ) (q q' p p' : Bor (List ℕ)) (s s' u u' : MutBor (List ℕ)) (n m : ℕ) (wa : Whole a) (wr : Whole r)
     (long : q.now ≡ a ++ (r ++ b)) (short : p.now ≡ a ++ b) (case : u.now ≡ s.now) (good : (found_for (a ++ (r ++ b)) s.now).refusal ≡ 0)
     (nothing : ChangesNothing a r b (facts_of s.now).trade.executed.0) where
   alike : Filled q.now s.now n s'.now → Filled p.now u.now m u'.now → (m ≡ n) × (u'.now ≡ s'.now)

@@ -4,7 +4,7 @@
 use Rattle.std.specs.Prelude.{ℕ, ◌+◌, ◌*◌, ◌≤◌, ◌<◌, ◌≡◌, refl, true, false, List, length}
 use Rattle.std.proofs.Common.{sym, ap, ◌∙◌, arith}
 use contract.Lifetimes.{Lfts}
-use Rattle.std.specs.Borrow.{Bor}
+use Rattle.std.specs.Borrow.{Bor, MutBor}
 use Rattle.wire.specs.Laid.{laid}
 use Rattle.wire.specs.Numbers.{AreBytes, number_at}
 use Rattle.wire.proofs.Tests.{range_ends}
@@ -124,7 +124,7 @@ pub as_before : (s : List ℕ) (room : ℕ) → (length s ≡ 92 → ⊥) → ca
 as_before = before.as_before
 
 -- So every call of `rule_case` and `desk_rule_case`.
-module _ (κs : Lfts 2) (s s' out out' : Bor (List ℕ)) (r : ℕ) (short : length s.now ≡ 92 → ⊥) where
+module _ (κs : Lfts 2) (s s' : Bor (List ℕ)) (out out' : MutBor (List ℕ)) (r : ℕ) (short : length s.now ≡ 92 → ⊥) where
   pub rule_case_as_before : answer.rule_case.Reads.Post κs (s, (out, tt)) r (s', (out', tt))
       → let a = case_before s.now (length out.now) in Said a.0 a.1 r out.now out'.now
   rule_case_as_before p = rw (as_before s.now (length out.now) short) at p
@@ -145,7 +145,7 @@ pub sheet_as_before : (s : List ℕ) (room : ℕ) → AllKindOne s → sheet_of 
 sheet_as_before s room h = sheets.sheet_before_lem s h.0 h.1 room
 
 -- And so every call of `rule_sheet` and `desk_rule_sheet`.
-module _ (κs : Lfts 2) (s s' out out' : Bor (List ℕ)) (one : AllKindOne s.now) where
+module _ (κs : Lfts 2) (s s' : Bor (List ℕ)) (out out' : MutBor (List ℕ)) (one : AllKindOne s.now) where
   pub rule_sheet_as_before : (r : SheetAnswer) → sheet.rule_sheet.Reads.Post κs (s, (out, tt)) r (s', (out', tt))
       → let a = sheet_before s.now (length out.now) in Said a.0 a.1 r out.now out'.now
   rule_sheet_as_before r p = rw (sheet_as_before s.now (length out.now) one) at p
@@ -175,7 +175,7 @@ pub wide_answered : (s : List ℕ) → AreBytes s → (reading_of s).refusal ≡
 wide_answered = recasts.wide_answered
 
 -- So every two calls of `rule_case`, or of `desk_rule_case`, on such cases with as much room: the same number, and the same bytes are written.
-module _ (κs κs' : Lfts 2) (s s' t t' out out' o o' : Bor (List ℕ)) (n m : ℕ) (small : AreBytes s.now) (good : (reading_of s.now).refusal ≡ 0)
+module _ (κs κs' : Lfts 2) (s s' t t' : Bor (List ℕ)) (out out' o o' : MutBor (List ℕ)) (n m : ℕ) (small : AreBytes s.now) (good : (reading_of s.now).refusal ≡ 0)
     (room : length out.now ≡ length o.now) where
   abbrev SameCalls : Type 0
   SameCalls = (m ≡ n) × ((a : List ℕ) × (out'.now ≡ laid a out.now) × (o'.now ≡ laid a o.now))

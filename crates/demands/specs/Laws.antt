@@ -4,7 +4,7 @@ use Rattle.std.specs.Prelude.{ℕ, ◌≤◌, ◌≡◌, true, length}
 use Rattle.std.proofs.Common.{le_trans, sym, ap, ◌∙◌, lit≤, leb-true}
 use mathlib.Core.List.{List, Permᴰ}
 use contract.Lifetimes.{Lfts}
-use Rattle.std.specs.Borrow.{Bor}
+use Rattle.std.specs.Borrow.{Bor, MutBor}
 use Rattle.wire.specs.Laid.{laid, row}
 use Rattle.facts.specs.declared.Mills.{Mills}
 use Rattle.facts.specs.declared.Side.{Side}
@@ -63,7 +63,7 @@ pub any_order : (s : List ℕ) (ds : List (List ℕ)) → whole s ≡ true → P
 any_order = order.any_order
 
 -- So every two calls of `rule_sheet`, or of `desk_rule_sheet`, on such sheets with as much room.
-module _ (σ : ℕ → ℕ) (κs κs' : Lfts 2) (s s' t t' out out' o o' : Bor (List ℕ)) (a : Reordered σ s.now t.now) (room : length out.now ≡ length o.now) where
+module _ (σ : ℕ → ℕ) (κs κs' : Lfts 2) (s s' t t' : Bor (List ℕ)) (out out' o o' : MutBor (List ℕ)) (a : Reordered σ s.now t.now) (room : length out.now ≡ length o.now) where
   -- for s its judgements in its own order, for t the same in t's
   abbrev Written : Type 0
   Written = (out'.now ≡ laid (row (entry_of s.now) (cases_in s.now)) out.now) × (o'.now ≡ laid (in_order σ s.now) o.now)

@@ -3,7 +3,7 @@
 use Rattle.std.specs.Prelude.{ℕ, ◌≡◌, refl, List, [], ◌∷◌, ◌++◌, take}
 use Rattle.std.proofs.Common.{append_assoc, eq-eqb}
 use contract.Lifetimes.{Lfts}
-use Rattle.std.specs.Borrow.{Bor}
+use Rattle.std.specs.Borrow.{Bor, MutBor}
 use Rattle.wire.specs.Numbers.{bytes, elements}
 use Rattle.wire.specs.Tests.{in_range}
 use Rattle.facts.specs.Numbers.{price_number, price_of}
@@ -89,7 +89,7 @@ unfolding answer_of answer_records ruling_record notice_record
 answers_silent f g n = rw (n.trade, n.outcome, n.reason, n.buyer, n.seller)
 
 -- ---- so every call of `rule_case`, or of `desk_rule_case`, that rules a case
-module _ (κs : Lfts 2) (s s' out out' : Bor (List ℕ)) (n : ℕ) (ruled : n ≡ 0) where
+module _ (κs : Lfts 2) (s s' : Bor (List ℕ)) (out out' : MutBor (List ℕ)) (n : ℕ) (ruled : n ≡ 0) where
   pub rule_case_told : answer.rule_case.Reads.Post κs (s, (out, tt)) n (s', (out', tt)) → Told (ruling_of (facts_of s.now)) (take 96 out'.now)
   rule_case_told p = rw (why.ruled_bytes_lem s.now out.now out'.now n p ruled) (origin_told (facts_of s.now))
 
@@ -97,7 +97,7 @@ module _ (κs : Lfts 2) (s s' out out' : Bor (List ℕ)) (n : ℕ) (ruled : n �
   desk_rule_case_told = rule_case_told
 
 -- ---- and every two of them, on cases that agree so
-module _ (κs κs' : Lfts 2) (s s' t t' out out' o o' : Bor (List ℕ)) (n m : ℕ) (ruled : n ≡ 0) (ruled' : m ≡ 0)
+module _ (κs κs' : Lfts 2) (s s' t t' : Bor (List ℕ)) (out out' o o' : MutBor (List ℕ)) (n m : ℕ) (ruled : n ≡ 0) (ruled' : m ≡ 0)
     (news : SameNews (facts_of s.now) (facts_of t.now)) where
   abbrev SameNotices : Type 0
   SameNotices = elements 64 (take 96 out'.now) 32 ≡ elements 64 (take 96 o'.now) 32

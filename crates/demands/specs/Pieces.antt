@@ -2,7 +2,7 @@
 use Rattle.std.specs.Prelude.{ℕ, ◌≤◌, ◌<◌, ◌≡◌, List, [], length, take}
 use Rattle.std.proofs.Common.{sym, ◌∙◌, arith}
 use contract.Lifetimes.{Lfts}
-use Rattle.std.specs.Borrow.{Bor}
+use Rattle.std.specs.Borrow.{Bor, MutBor}
 use Rattle.wire.specs.Laid.{laid, row}
 use Rattle.wire.proofs.Rows.{row_same}
 use Rattle.report.specs.Report.{text_of}
@@ -11,7 +11,7 @@ use Rattle.report.proofs as report
 use Rattle.demands.specs.Why as why
 
 -- No caller tests anything first: the buffer has 96 bytes by its type.
-pub nothing_asked : (κs : Lfts 2) (s b : Bor (List ℕ)) (k : ℕ) → report.print_piece.Reads.Asked κs (s, (k, (b, tt)))
+pub nothing_asked : (κs : Lfts 2) (s : Bor (List ℕ)) (b : MutBor (List ℕ)) (k : ℕ) → report.print_piece.Reads.Asked κs (s, (k, (b, tt)))
 nothing_asked κs s b k = tt
 
 -- All pieces, one after the other, are the report: the header, at most 600 lines and END are 602.
@@ -34,13 +34,13 @@ pub piece_fits : (s : List ℕ) (k : ℕ) → length (piece_of s k) ≤ 96
 piece_fits = report.Pieces.piece_most
 
 -- So every call of `print_piece`.
-pub print_piece_says : (κs : Lfts 2) (s s' out out' : Bor (List ℕ)) (k k' r : ℕ) → report.print_piece.Reads.Post κs (s, (k, (out, tt))) r (s', (k', (out', tt)))
+pub print_piece_says : (κs : Lfts 2) (s s' : Bor (List ℕ)) (out out' : MutBor (List ℕ)) (k k' r : ℕ) → report.print_piece.Reads.Post κs (s, (k, (out, tt))) r (s', (k', (out', tt)))
     → (r ≡ length (piece_of s.now k)) × (r ≤ 96) × (out'.now ≡ laid (piece_of s.now k) out.now)
 print_piece_says κs s s' out out' k k' r p = (p.0.0, rw p.0.0 (piece_fits s.now k), p.0.1)
 
 -- And every run of calls on one sheet, for piece 0 to piece n, whatever the buffers hold before: where the last answers 0, what the calls before
 -- it wrote, as many bytes as each answered, is the report.
-pub calls_until_empty : (sheet : List ℕ) (n : ℕ) (κs : ℕ → Lfts 2) (s s' out out' : ℕ → Bor (List ℕ)) (k' r : ℕ → ℕ)
+pub calls_until_empty : (sheet : List ℕ) (n : ℕ) (κs : ℕ → Lfts 2) (s s' : ℕ → Bor (List ℕ)) (out out' : ℕ → MutBor (List ℕ)) (k' r : ℕ → ℕ)
     → ((k : ℕ) → k ≤ n → ((s k).now ≡ sheet) × report.print_piece.Reads.Post (κs k) (s k, (k, (out k, tt))) (r k) (s' k, (k' k, (out' k, tt))))
     → r n ≡ 0 → row (λ k. take (r k) (out' k).now) n ≡ text_of sheet
 calls_until_empty sheet n κs s s' out out' k' r calls e =

@@ -3,7 +3,7 @@
 use Rattle.std.specs.Prelude.{ℕ, ◌+◌, ◌≤◌, min, ◌≡◌, ◌⊎◌, List, ◌++◌, length, ltb}
 use Rattle.std.proofs.Common.{sym, ◌∙◌, ⊎_elim}
 use contract.Lifetimes.{Lfts}
-use Rattle.std.specs.Borrow.{Bor}
+use Rattle.std.specs.Borrow.{Bor, MutBor}
 use Rattle.facts.specs.declared.Mills.{Mills}
 use Rattle.facts.specs.declared.Price.{Price}
 use Rattle.facts.specs.declared.Price.TheVariants.{At}
@@ -33,7 +33,7 @@ use Rattle.demands.specs.Demand2.{Said}
 use Rattle.demands.specs.Why as why
 
 -- ---- demand 1: nothing is asked, and every byte string and every time gets a result or one of 20 to 23
-pub nothing_asked : (κ : Lfts 1) (κs : Lfts 3) (s w b : Bor (List ℕ)) (t e : ℕ)
+pub nothing_asked : (κ : Lfts 1) (κs : Lfts 3) (s w : Bor (List ℕ)) (b : MutBor (List ℕ)) (t e : ℕ)
     → quotes.check_quotes.Reads.Asked κ (s, (t, tt))
     × best.last_before.Reads.Asked κ (s, (t, (e, tt)))
     × standing.print_best.Reads.Asked κs (s, (w, (b, tt)))
@@ -128,6 +128,6 @@ pub text_fits : (s w : List ℕ) → length (best_text s (time_in w)) ≤ 4096
 text_fits s w = standing.Lengths.text_most s (time_in w)
 
 -- So every call of `print_best`: the text stands over the start of the buffer, every byte after it is kept, and its length is answered.
-pub print_best_says : (κs : Lfts 3) (s s' w w' out out' : Bor (List ℕ)) (r : ℕ) → standing.print_best.Reads.Post κs (s, (w, (out, tt))) r (s', (w', (out', tt)))
+pub print_best_says : (κs : Lfts 3) (s s' w w' : Bor (List ℕ)) (out out' : MutBor (List ℕ)) (r : ℕ) → standing.print_best.Reads.Post κs (s, (w, (out, tt))) r (s', (w', (out', tt)))
     → let text = best_text s.now (time_in w.now) in Said (length text) text r out.now out'.now × (r ≤ 4096)
 print_best_says κs s s' w w' out out' r p = (p.0, rw p.0.0 (text_fits s.now w.now))

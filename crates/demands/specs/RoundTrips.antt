@@ -4,7 +4,7 @@
 use Rattle.std.specs.Prelude.{ℕ, ◌≤◌, ◌≡◌, List, length, take}
 use Rattle.std.proofs.Common.{sym, ap, ◌∙◌}
 use contract.Lifetimes.{Lfts}
-use Rattle.std.specs.Borrow.{Bor}
+use Rattle.std.specs.Borrow.{Bor, MutBor}
 use Rattle.wire.specs.Laid.{laid}
 use Rattle.wire.specs.Numbers.{AreBytes}
 use Rattle.forms.specs.Forms.{form_length}
@@ -31,7 +31,7 @@ accepted_passes = floor.accepted_passes
 
 -- ---- so every call
 
-module _ (κ κ' : Lfts 1) (s s' out out' : Bor (List ℕ)) (r : Reading) (n : ℕ) where
+module _ (κ κ' : Lfts 1) (s s' : Bor (List ℕ)) (out out' : MutBor (List ℕ)) (r : Reading) (n : ℕ) where
   -- `write_case`, and then `read_case` on the bytes that it left: accepted, and the facts are those that were written.
   pub calls_written_read : (f f' : Facts) → cases.write_case.Reads.Post κ (f, (out, tt)) n (f', (out', tt)) → n ≡ 0
       → s.now ≡ take (form_length f.form) out'.now → cases.read_case.Reads.Post κ' (s, tt) r (s', tt) → r ≡ accepted f

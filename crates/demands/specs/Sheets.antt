@@ -2,7 +2,7 @@
 use Rattle.std.specs.Prelude.{ℕ, ◌+◌, ◌*◌, ◌≤◌, ◌<◌, ◌≡◌, true, false, List, [], ◌++◌, length, take, drop, set, leb, eqb}
 use Rattle.std.proofs.Common.{sym, ap, ◌∙◌, arith, leb-true, le-leb}
 use contract.Lifetimes.{Lfts}
-use Rattle.std.specs.Borrow.{Bor}
+use Rattle.std.specs.Borrow.{Bor, MutBor}
 use Rattle.wire.specs.Laid.{laid, row}
 use Rattle.wire.proofs.Tests.{both_true}
 use Rattle.cut.specs.Cut.{IsCase, case_length, uncut, before, cut, whole, cases_in, case_at, together, AllCases, SameButIn}
@@ -101,7 +101,7 @@ pub only_entry : (s t : List ℕ) (j : ℕ) → ButOne s t j → (room room' : �
 only_entry = sheets.only_entry
 
 -- So every two calls of `rule_sheet`, or of `desk_rule_sheet`, that rule such sheets.
-module _ (κs κs' : Lfts 2) (s s' t t' out out' o o' : Bor (List ℕ)) (j : ℕ) (but : ButOne s.now t.now j) where
+module _ (κs κs' : Lfts 2) (s s' t t' : Bor (List ℕ)) (out out' o o' : MutBor (List ℕ)) (j : ℕ) (but : ButOne s.now t.now j) where
   abbrev OnlyThere : Type 0
   OnlyThere = (a : List ℕ) × (b : List ℕ) × (out'.now ≡ laid a out.now) × (o'.now ≡ laid b o.now) × OnlyEntry s.now t.now j a b
 

@@ -1,5 +1,5 @@
-// The desk for other programs: seven functions on numbers and byte slices, in C's calling form (include/desk.h declares them). Each passes
-// its callee's promise on in the page's numbers, and asks nothing beyond what its types say.
+// The desk for other programs: seven functions on numbers and byte slices. Each passes its callee's promise on in the page's numbers, and asks
+// nothing beyond what its types say. In C's calling form they stand in `desk_c`.
 #![tactic(auto)]
 
 ghost use Rattle.std.specs.Prelude.{◌≡◌, length};
@@ -39,24 +39,21 @@ pub struct DeskBest {
 }
 
 // Tests a case: its number, 0 if it is accepted.
-#[unsafe(no_mangle)]
-pub extern "C" fn desk_check_case(case: &[u8]) -> u32
+pub fn desk_check_case(case: &[u8]) -> u32
     ensures { result ≡ refusal_of case.now }
 {
     cases::check_case(case) as u32
 }
 
 // Rules a case into the first 96 bytes of a buffer: its number, 0 if it is ruled.
-#[unsafe(no_mangle)]
-pub extern "C" fn desk_rule_case(case: &[u8], out: &mut [u8]) -> u32
+pub fn desk_rule_case(case: &[u8], out: &mut [u8]) -> u32
     ensures { (result ≡ (case_of case.now (length out.old)).0) × (out.new ≡ laid (case_of case.now (length out.old)).1 out.old) }
 {
     answer::rule_case(case, out) as u32
 }
 
 // Rules a sheet into a buffer.
-#[unsafe(no_mangle)]
-pub extern "C" fn desk_rule_sheet(sheet: &[u8], out: &mut [u8]) -> DeskSheet
+pub fn desk_rule_sheet(sheet: &[u8], out: &mut [u8]) -> DeskSheet
     ensures { (result ≡ desk_sheet (sheet_of sheet.now (length out.old)).0) × (out.new ≡ laid (sheet_of sheet.now (length out.old)).1 out.old) }
 {
     let a = sheet::rule_sheet(sheet, out);
@@ -69,8 +66,7 @@ pub extern "C" fn desk_rule_sheet(sheet: &[u8], out: &mut [u8]) -> DeskSheet
 }
 
 // Prints a sheet: how many bytes of the buffer are its text.
-#[unsafe(no_mangle)]
-pub extern "C" fn desk_print_sheet(sheet: &[u8], out: &mut [u8; 65536]) -> u64
+pub fn desk_print_sheet(sheet: &[u8], out: &mut [u8; 65536]) -> u64
     ensures { (result ≡ length (text_of sheet.now)) × (out.new ≡ laid (text_of sheet.now) out.old) }
 {
     report::print_sheet(sheet, out) as u64
@@ -95,24 +91,21 @@ fn desk_best(l: Looked) -> DeskBest
 }
 
 // The number of quotes strictly before a trade: 0 where the quotes or the time are refused.
-#[unsafe(no_mangle)]
-pub extern "C" fn desk_quotes_before(quotes: &[u8], trade_time: u32) -> u64
+pub fn desk_quotes_before(quotes: &[u8], trade_time: u32) -> u64
     ensures { result ≡ quotes_before_of quotes.now trade_time }
 {
     earlier::quotes_before(quotes, trade_time) as u64
 }
 
 // Finds the best bid and offer of the exchanges' quotes at a trade, with the number of quotes strictly before it.
-#[unsafe(no_mangle)]
-pub extern "C" fn desk_best_quotes(quotes: &[u8], trade_time: u32, before: u64) -> DeskBest
+pub fn desk_best_quotes(quotes: &[u8], trade_time: u32, before: u64) -> DeskBest
     ensures { result ≡ desk_best (looked_of quotes.now trade_time before) }
 {
     desk_best(best::find_best(quotes, trade_time, before as usize))
 }
 
 // Fills a case with the best bid and offer at its own execution time: its number, 0 if it is filled.
-#[unsafe(no_mangle)]
-pub extern "C" fn desk_fill_case(quotes: &[u8], case: &mut [u8]) -> u32
+pub fn desk_fill_case(quotes: &[u8], case: &mut [u8]) -> u32
     ensures { (result ≡ (filling_of quotes.now case.old).0) × (case.new ≡ (filling_of quotes.now case.old).1) }
 {
     filling::fill_case(quotes, case) as u32

@@ -2,7 +2,7 @@
 // worked out by hand from document 01 (docs/RULE.md, docs/RULEBOOK.md). Each line names the record and gives its number, 0 where it is accepted.
 #![tactic(auto)]
 
-ghost use Rattle.std.specs.Prelude.{◌≡◌, ℕ, ◌+◌, ◌<◌, ◌≤◌, ◌≢◌, length, slice_index};
+ghost use Rattle.std.specs.Prelude.{◌≡◌, ℕ, ◌+◌, ◌<◌, ◌≤◌, ◌≢◌, ◌++◌, length, slice_index, OnOk, decimal, codes, if◌then◌else◌};
 
 use facts::{Contracts, Facts, Mills};
 use specimen::{byte, good, word};
@@ -26,24 +26,30 @@ fn facts_with(price: Mills, contracts: Contracts) -> Facts {
 
 // ---- a line each
 
-fn say(said: &mut Vec<u8>, text: &[u8]) -> Result<(), AllocError> {
+// What is said gathers in `said`, which `main` prints at the end; an error says that there was no memory for it.
+fn say(said: &mut Vec<u8>, text: &[u8]) -> Result<(), AllocError>
+    ensures { OnOk result (said.new.items ≡ said.old.items ++ text.now) }
+{
     said.extend_from_slice(text)
 }
 
-fn say_number(said: &mut Vec<u8>, name: &[u8], n: u8) -> Result<(), AllocError> {
+fn say_number(said: &mut Vec<u8>, name: &[u8], n: u8) -> Result<(), AllocError>
+    ensures { OnOk result (said.new.items ≡ said.old.items ++ (name.now ++ (codes ": " ++ decimal n))) }
+{
     say(said, name)?;
     say(said, b": ")?;
     let digits = n.to_string(*said.allocator())?;
     say(said, digits.as_str().as_bytes())
 }
 
-fn say_which(said: &mut Vec<u8>, yes: bool, first: &[u8], second: &[u8]) -> Result<(), AllocError> {
+fn say_which(said: &mut Vec<u8>, yes: bool, first: &[u8], second: &[u8]) -> Result<(), AllocError>
+    ensures { OnOk result (said.new.items ≡ said.old.items ++ (if yes then first.now else second.now)) }
+{
     if yes {
-        say(said, first)?;
+        say(said, first)
     } else {
-        say(said, second)?;
+        say(said, second)
     }
-    Ok(())
 }
 
 fn reading_of(said: &mut Vec<u8>, name: &[u8], case: &[u8]) -> Result<(), AllocError> {
@@ -147,21 +153,18 @@ fn number(row: &[u8], from: usize, to: usize) -> u32
     requires { (from ≤ to) × (to ≤ length row.now) }
 {
     let mut n: u32 = 0;
-    let mut i = from;
-    while i < to {
-        let b = row[i];
-        if b < b'0' {
+    for b in &row[from..to] {
+        if *b < b'0' {
             return n;
         }
-        if b'9' < b {
+        if b'9' < *b {
             return n;
         }
-        let digit = (b - b'0') as u32;
+        let digit = (*b - b'0') as u32;
         if (4294967295 - digit) / 10 < n {
             return n;
         }
         n = n * 10 + digit;
-        i += 1;
     }
     n
 }

@@ -4,7 +4,7 @@
 // says whether the buffer is as it was. The records that each starts from are `specimen`'s. The largest sheets stand in `edges_answered`.
 #![tactic(auto)]
 
-ghost use Rattle.std.specs.Prelude.{◌≡◌, ℕ, ◌+◌, ◌<◌, ◌≤◌, ◌≢◌, length, slice_index};
+ghost use Rattle.std.specs.Prelude.{◌≡◌, ℕ, ◌+◌, ◌<◌, ◌≤◌, ◌≢◌, ◌++◌, length, slice_index, OnOk, decimal};
 
 use facts::Facts;
 use specimen::{good, good_two};
@@ -14,17 +14,24 @@ use std::io::Read;
 
 // ---- what is printed
 
-fn say(said: &mut Vec<u8>, text: &[u8]) -> Result<(), AllocError> {
+// What is said gathers in `said`, which `main` prints at the end; an error says that there was no memory for it.
+fn say(said: &mut Vec<u8>, text: &[u8]) -> Result<(), AllocError>
+    ensures { OnOk result (said.new.items ≡ said.old.items ++ text.now) }
+{
     said.extend_from_slice(text)
 }
 
-fn say_number(said: &mut Vec<u8>, before: &[u8], n: u64) -> Result<(), AllocError> {
+fn say_number(said: &mut Vec<u8>, before: &[u8], n: u64) -> Result<(), AllocError>
+    ensures { OnOk result (said.new.items ≡ said.old.items ++ (before.now ++ decimal n)) }
+{
     say(said, before)?;
     let digits = n.to_string(*said.allocator())?;
     say(said, digits.as_str().as_bytes())
 }
 
-fn wide(b: u8) -> u64 {
+fn wide(b: u8) -> u64
+    ensures { result ≡ b }
+{
     b as u64
 }
 
@@ -117,21 +124,18 @@ fn number(row: &[u8], from: usize, to: usize) -> u32
     requires { (from ≤ to) × (to ≤ length row.now) }
 {
     let mut n: u32 = 0;
-    let mut i = from;
-    while i < to {
-        let b = row[i];
-        if b < b'0' {
+    for b in &row[from..to] {
+        if *b < b'0' {
             return n;
         }
-        if b'9' < b {
+        if b'9' < *b {
             return n;
         }
-        let digit = (b - b'0') as u32;
+        let digit = (*b - b'0') as u32;
         if (4294967295 - digit) / 10 < n {
             return n;
         }
         n = n * 10 + digit;
-        i += 1;
     }
     n
 }

@@ -3,6 +3,8 @@
 // standing, and the origin of TP; 4294967295 is none. The record that each starts from is `specimen`'s.
 #![tactic(auto)]
 
+ghost use Rattle.std.specs.Prelude.{◌≡◌, ◌++◌, OnOk, decimal};
+
 use specimen::{byte, good, word};
 use std::alloc::AllocError;
 use std::io;
@@ -12,17 +14,24 @@ const NONE: u32 = 4294967295;
 
 // ---- what is printed
 
-fn say(said: &mut Vec<u8>, text: &[u8]) -> Result<(), AllocError> {
+// What is said gathers in `said`, which `main` prints at the end; an error says that there was no memory for it.
+fn say(said: &mut Vec<u8>, text: &[u8]) -> Result<(), AllocError>
+    ensures { OnOk result (said.new.items ≡ said.old.items ++ text.now) }
+{
     said.extend_from_slice(text)
 }
 
-fn say_number(said: &mut Vec<u8>, before: &[u8], n: u64) -> Result<(), AllocError> {
+fn say_number(said: &mut Vec<u8>, before: &[u8], n: u64) -> Result<(), AllocError>
+    ensures { OnOk result (said.new.items ≡ said.old.items ++ (before.now ++ decimal n)) }
+{
     say(said, before)?;
     let digits = n.to_string(*said.allocator())?;
     say(said, digits.as_str().as_bytes())
 }
 
-fn wide(b: u8) -> u64 {
+fn wide(b: u8) -> u64
+    ensures { result ≡ b }
+{
     b as u64
 }
 

@@ -1,7 +1,6 @@
 use mathlib.Core.Path.{ap₂}
 use mathlib.Core.Bool.{◌||◌}
 use Rattle.act.specs.Limits.{catastrophic_stopped}
-use borrow.Author.Rules.{rules}
 use Rattle.act.proofs.catastrophic_stopped.Goals as goal
 
 pub returns : goal.returns

@@ -6,7 +6,6 @@ use Rattle.act.specs.Words.{Mills, Side, Kind, Party, Band, Way, Obvious, Openin
 use Rattle.act.specs.Limits.{opening_stopped, catastrophic_stopped}
 use Rattle.act.specs.Act.{obvious_act, opening_act, catastrophic_act, catastrophic_price, act_of}
 use Rattle.act.proofs.Reasons.{with_numbers}
-use borrow.Author.Rules.{rules}
 use Rattle.act.proofs.find_act.Goals as goal
 
 -- What the calls on each way gave is the act. Stated apart from the calls, where congruence closure has little to read.

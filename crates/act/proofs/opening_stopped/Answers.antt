@@ -4,7 +4,6 @@ use Rattle.facts.specs.Limits.{violates}
 use Rattle.parties.specs.Parties.{by_side}
 use Rattle.act.specs.Words.{Mills, Price, Side, Party}
 use Rattle.act.specs.Limits.{opening_tested, opening_stopped}
-use borrow.Author.Rules.{rules}
 use Rattle.act.proofs.opening_stopped.Goals as goal
 
 stopped : (side : Side) (buyer seller : Party) (tp : Mills) {tested : Side} {limit : Price} {r : Bool}

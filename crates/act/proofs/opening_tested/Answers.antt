@@ -3,7 +3,6 @@ use mathlib.Core.Bool.{Bool, true, false}
 use Rattle.parties.specs.Parties.{is_maker, by_side}
 use Rattle.act.specs.Words.{Side, Kind}
 use Rattle.act.specs.Limits.{other_side, opening_tested}
-use borrow.Author.Rules.{rules}
 use Rattle.act.proofs.opening_tested.Goals as goal
 
 module _ (side : Side) (buyer seller : Kind) {other : Kind} {maker : Bool} (kind : other ≡ by_side side seller buyer) (made : maker ≡ is_maker other) where

@@ -3,7 +3,6 @@ use mathlib.Core.Bool.{Bool, true, false}
 use Rattle.agreement.specs.Words.{Settlement, Way, Heeded, Ignored}
 use Rattle.agreement.specs.Agreed.{in_time, may_nullify, terms_of, heeded_of}
 use Rattle.agreement.proofs.Numbers.{numbered}
-use borrow.Author.Rules.{rules}
 use Rattle.agreement.proofs.heed.Goals as goal
 
 -- An agreement in time counts by its terms, any other not: what the calls gave, stated apart from them.

@@ -1,5 +1,4 @@
 use Rattle.agreement.specs.Agreed.{in_time}
-use borrow.Author.Rules.{rules}
 use Rattle.agreement.proofs.in_time.Goals as goal
 
 pub returns : goal.returns

@@ -1,5 +1,4 @@
 use Rattle.agreement.specs.Agreed.{may_nullify}
-use borrow.Author.Rules.{rules}
 use Rattle.agreement.proofs.may_nullify.Goals as goal
 
 pub returns : goal.returns

@@ -1,7 +1,6 @@
 use mathlib.Core.Path.{◌≡◌}
 use Rattle.bands.specs.Words.{Buy, Sell}
 use Rattle.bands.specs.Amounts.{in_error}
-use borrow.Author.Rules.{rules}
 use Rattle.bands.proofs.in_error.Goals as goal
 
 pub returns-in-Buy : goal.returns-in-Buy

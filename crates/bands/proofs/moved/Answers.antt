@@ -3,7 +3,6 @@ use mathlib.Core.Path.{◌≡◌, ap}
 use native.Mathlib.Omega.{arith}
 use Rattle.bands.specs.Words.{mills, Buy, Sell}
 use Rattle.bands.specs.Amounts.{largest, moved_by}
-use borrow.Author.Rules.{rules}
 use Rattle.bands.proofs.moved.Goals as goal
 
 pub returns-then-tp-by : goal.returns-then-tp-by

@@ -1,5 +1,4 @@
 use Rattle.best.proofs.Answers.{answered}
-use borrow.Author.Rules.{rules}
 use Rattle.best.proofs.answer.Goals as goal
 
 pub returns : goal.returns

@@ -1,5 +1,4 @@
 use Rattle.best.specs.Best.{best_of}
-use borrow.Author.Rules.{rules}
 use Rattle.best.proofs.best_of.Goals as goal
 
 pub returns : goal.returns

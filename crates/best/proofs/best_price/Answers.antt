@@ -1,11 +1,7 @@
 use Rattle.best.proofs.Said.{best_start, best_turn}
-use Rattle.best.specs.Places.{said}
-use Rattle.best.specs.Best.{best_price}
-use lib.ListN.{length, drop}
-use borrow.Author.Rules.{rules}
+use lib.ListN.{length}
 use native.Mathlib.Omega.{arith}
 use mathlib.Core.Path.{◌≡◌}
-use Prim.Native.Nat.{◌≤◌}
 use Rattle.best.proofs.best_price.Goals as goal
 
 pub loop-i-init : goal.loop-i-init

@@ -1,8 +1,6 @@
-use Rattle.best.proofs.Said.{best_start, best_turn}
 use Rattle.best.specs.Places.{said}
 use Rattle.best.specs.Best.{best_price}
 use lib.ListN.{length, drop}
-use native.Mathlib.Omega.{arith}
 use mathlib.Core.Path.{◌≡◌}
 use Prim.Native.Nat.{◌≤◌}
 use Rattle.best.proofs.best_price.Given as goal

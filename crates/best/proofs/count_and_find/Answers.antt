@@ -2,7 +2,6 @@ use Rattle.best.proofs.Answers.{looked_refused, right_number, looked_own}
 use Rattle.earlier.proofs.Number.{counted_within}
 use Rattle.quotes.proofs.Accepted.{all_ok_lem, all_rising}
 use mathlib.Core.Path.{sym, ◌∙◌}
-use borrow.Author.Rules.{rules}
 use Rattle.best.proofs.count_and_find.Goals as goal
 
 pub returns-then-number-ne0 : goal.returns-then-number-ne0

@@ -1,9 +1,7 @@
 use Rattle.best.proofs.Answers.{looked_refused, looked_wrong, looked}
 use Rattle.earlier.proofs.Number.{counted_within}
 use Rattle.quotes.proofs.Accepted.{all_ok_lem, all_rising}
-use Rattle.wire.proofs.Tests.{fails, holds}
 use mathlib.Core.Path.{sym, ◌∙◌}
-use borrow.Author.Rules.{rules}
 use Rattle.best.proofs.find_best.Goals as goal
 
 pub returns-then-number-ne0 : goal.returns-then-number-ne0

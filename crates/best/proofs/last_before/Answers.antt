@@ -1,11 +1,6 @@
 use Rattle.best.proofs.Sought.{met_last, passed, nobody_met}
-use Rattle.earlier.specs.Earlier.{earlier}
-use Rattle.best.specs.Lasts.{last_of}
-use Rattle.quotes.specs.Quotes.{posted_from, posted_in}
-use lib.ListN.{length}
 use native.Mathlib.Omega.{arith}
-use mathlib.Core.Path.{◌≡◌, refl, ◌∙◌}
-use Prim.Native.Nat.{◌≤◌, ◌/◌}
+use mathlib.Core.Path.{◌∙◌}
 use Rattle.best.proofs.last_before.Goals as goal
 
 pub returns-then-q-trade_time : goal.returns-then-q-trade_time

@@ -1,10 +1,8 @@
-use Rattle.best.proofs.Sought.{met_last, passed, nobody_met}
 use Rattle.earlier.specs.Earlier.{earlier}
 use Rattle.best.specs.Lasts.{last_of}
 use Rattle.quotes.specs.Quotes.{posted_from, posted_in}
 use lib.ListN.{length}
-use native.Mathlib.Omega.{arith}
-use mathlib.Core.Path.{◌≡◌, refl, ◌∙◌}
+use mathlib.Core.Path.{◌≡◌}
 use Prim.Native.Nat.{◌≤◌, ◌/◌}
 use Rattle.best.proofs.last_before.Given as goal
 

@@ -1,6 +1,5 @@
 use borrow.Author.Tests.{eq-eqb, ne_eqb}
 use Rattle.best.specs.Places.{met}
-use borrow.Author.Rules.{rules}
 use Rattle.best.proofs.meet.Goals as goal
 
 pub returns-then-last-index-ne0 : goal.returns-then-last-index-ne0

@@ -1,11 +1,7 @@
 use Rattle.best.proofs.Said.{size_start, size_turn}
-use Rattle.best.specs.Places.{said}
-use Rattle.best.specs.Best.{size_at}
-use lib.ListN.{length, drop}
-use borrow.Author.Rules.{rules}
+use lib.ListN.{length}
 use native.Mathlib.Omega.{arith}
 use mathlib.Core.Path.{◌≡◌}
-use Prim.Native.Nat.{◌≤◌, ◌+◌, ◌*◌}
 use Rattle.best.proofs.size_at.Goals as goal
 
 pub loop-i-init : goal.loop-i-init

@@ -1,9 +1,5 @@
-use borrow.Author.Tests.{ltb-true, ltb-false}
-use native.Mathlib.Omega.{arith}
-use Rattle.best.proofs.Turns.{Turn, first, next, ended, stopped}
-use Rattle.quotes.proofs.Accepted.{exchange_at}
-use mathlib.Core.Logic.{⊎_elim}
-use Prim.Native.Nat.{◌≤◌, ◌-◌}
+use Rattle.best.proofs.Turns.{Turn}
+use Prim.Native.Nat.{◌-◌}
 use Rattle.best.proofs.walk_back.Given as goal
 
 abbrev pub invariant-loop-i : goal.invariant-loop-i

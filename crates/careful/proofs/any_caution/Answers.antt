@@ -1,5 +1,4 @@
 use Rattle.careful.specs.Careful.{any_caution}
-use borrow.Author.Rules.{rules}
 use Rattle.careful.proofs.any_caution.Goals as goal
 
 pub returns : goal.returns

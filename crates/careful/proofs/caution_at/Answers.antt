@@ -1,6 +1,5 @@
 use mathlib.Core.Path.{sym, ◌∙◌}
 use Rattle.careful.proofs.Found.{told, untold}
-use borrow.Author.Rules.{rules}
 use Rattle.careful.proofs.caution_at.Goals as goal
 
 pub returns-then-misleads : goal.returns-then-misleads

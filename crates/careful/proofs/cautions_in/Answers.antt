@@ -1,5 +1,4 @@
 use Rattle.careful.specs.Careful.{cautions_in}
-use borrow.Author.Rules.{rules}
 use Rattle.careful.proofs.cautions_in.Goals as goal
 
 pub returns : goal.returns

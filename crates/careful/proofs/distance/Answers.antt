@@ -1,6 +1,5 @@
 use native.Mathlib.Omega.{arith}
 use Rattle.careful.specs.Careful.{distance}
-use borrow.Author.Rules.{rules}
 use Rattle.careful.proofs.distance.Goals as goal
 
 pub returns-then-a-b : goal.returns-then-a-b

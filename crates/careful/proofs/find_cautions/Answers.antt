@@ -1,6 +1,5 @@
 use mathlib.Core.Path.{sym, ◌∙◌}
 use Rattle.careful.proofs.Found.{whole, of_case, of_none}
-use borrow.Author.Rules.{rules}
 use Rattle.careful.proofs.find_cautions.Goals as goal
 
 pub cautions_in-requires : goal.cautions_in-requires

@@ -1,5 +1,4 @@
 use Rattle.careful.specs.Careful.{misleads, nearer}
-use borrow.Author.Rules.{rules}
 use Rattle.careful.proofs.misleads.Goals as goal
 
 pub returns : goal.returns

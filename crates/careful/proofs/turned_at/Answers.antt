@@ -1,5 +1,4 @@
 use Rattle.careful.specs.Careful.{turned_at}
-use borrow.Author.Rules.{rules}
 use Rattle.careful.proofs.turned_at.Goals as goal
 
 pub returns : goal.returns

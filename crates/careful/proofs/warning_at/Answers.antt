@@ -1,5 +1,4 @@
 use Rattle.careful.specs.Careful.{warning_at}
-use borrow.Author.Rules.{rules}
 use Rattle.careful.proofs.warning_at.Goals as goal
 
 pub returns : goal.returns

@@ -1,6 +1,5 @@
 use mathlib.Core.Path.{sym, ◌∙◌}
 use Rattle.cases.proofs.Laws.{head_decides, head_passed}
-use borrow.Author.Rules.{rules}
 use Rattle.cases.proofs.check_case.Goals as goal
 
 pub returns-then-head-ne0 : goal.returns-then-head-ne0

@@ -1,7 +1,5 @@
 use mathlib.Core.Path.{sym, ◌∙◌}
-use Rattle.wire.proofs.Tests.{fails, holds}
 use Rattle.cases.proofs.Laws.{case_whole, coded_decides, codes_decide, later_decide}
-use borrow.Author.Rules.{rules}
 use Rattle.cases.proofs.check_known.Goals as goal
 
 pub coded_ok-requires : goal.coded_ok-requires

@@ -1,7 +1,6 @@
 use mathlib.Core.Path.{sym, ap, ◌∙◌}
 use Rattle.cases.specs.Cases.{accepted}
 use Rattle.cases.proofs.Laws.{refused_at, accepted_at_lem, passed_whole}
-use borrow.Author.Rules.{rules}
 use Rattle.cases.proofs.read_case.Goals as goal
 
 pub returns-then-n-ne0 : goal.returns-then-n-ne0

@@ -2,7 +2,6 @@ use Prim.Native.Nat.{ℕ}
 use mathlib.Core.Path.{ap}
 use Rattle.cases.specs.Words.{Facts, Reading}
 use Rattle.cases.specs.Cases.{refused}
-use borrow.Author.Rules.{rules}
 use Rattle.cases.proofs.refuse.Goals as goal
 
 abbrev refusing : ℕ → Facts → Reading

@@ -1,10 +1,7 @@
 use mathlib.Core.Path.{sym, ◌∙◌}
-use native.Mathlib.Omega.{arith}
 use Rattle.wire.proofs.Laid.{laid_none, ends}
-use Rattle.forms.proofs.Heads.{form_88}
 use Rattle.cases.proofs.Held.{held}
 use Rattle.cases.proofs.Laws.{writes_short, writes_refused, writes_facts}
-use borrow.Author.Rules.{rules}
 use Rattle.cases.proofs.write_case.Goals as goal
 
 pub returns-then-out-length_of : goal.returns-then-out-length_of

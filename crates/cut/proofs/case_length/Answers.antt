@@ -3,8 +3,6 @@ use mathlib.Core.Path.{◌≡◌, sym, ◌∙◌}
 use mathlib.Core.Bool.{true, false}
 use native.Mathlib.Omega.{arith}
 use lib.ListN.{length}
-use borrow.Author.Rules.{rules}
-use Rattle.wire.proofs.Tests.{fails, holds}
 use Rattle.forms.specs.Heads.{known, size_in, kind_in}
 use Rattle.cut.proofs.First.{none_short, none_unknown, none_cut, one_first}
 use Rattle.cut.proofs.case_length.Goals as goal

@@ -1,7 +1,5 @@
 use Prim.Native.Nat.{◌-◌}
-use native.Mathlib.Omega.{arith}
-use lib.ListN.{length}
-use Rattle.cut.proofs.Walk.{Counted, counted_start, counted_next, counted_end}
+use Rattle.cut.proofs.Walk.{counted_start, counted_next, counted_end}
 use Rattle.cut.proofs.count_cases.Goals as goal
 
 pub loop-step-init : goal.loop-step-init

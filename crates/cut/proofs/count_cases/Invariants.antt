@@ -1,7 +1,6 @@
 use Prim.Native.Nat.{◌-◌}
-use native.Mathlib.Omega.{arith}
 use lib.ListN.{length}
-use Rattle.cut.proofs.Walk.{Counted, counted_start, counted_next, counted_end}
+use Rattle.cut.proofs.Walk.{Counted}
 use Rattle.cut.proofs.count_cases.Given as goal
 
 abbrev pub invariant-loop-step : goal.invariant-loop-step

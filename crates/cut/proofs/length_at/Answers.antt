@@ -1,4 +1,3 @@
-use borrow.Author.Rules.{rules}
 use Rattle.cut.proofs.Walk.{length_there}
 use Rattle.cut.proofs.length_at.Goals as goal
 

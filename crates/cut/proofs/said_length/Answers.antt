@@ -1,5 +1,4 @@
 use Rattle.cut.proofs.Walk.{head_within, said_there}
-use borrow.Author.Rules.{rules}
 use Rattle.cut.proofs.said_length.Goals as goal
 
 pub read_u16-requires : goal.read_u16-requires

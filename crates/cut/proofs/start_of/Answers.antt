@@ -1,6 +1,6 @@
-use Prim.Native.Nat.{◌-◌, ◌≤◌}
+use Prim.Native.Nat.{◌-◌}
 use native.Mathlib.Omega.{arith}
-use Rattle.cut.proofs.Walk.{Counted, counted_start, counted_next, goes_on, stops, counted_place}
+use Rattle.cut.proofs.Walk.{counted_start, counted_next, goes_on, stops, counted_place}
 use Rattle.cut.proofs.start_of.Goals as goal
 
 pub loop-i-init : goal.loop-i-init

@@ -1,6 +1,5 @@
 use Prim.Native.Nat.{◌-◌, ◌≤◌}
-use native.Mathlib.Omega.{arith}
-use Rattle.cut.proofs.Walk.{Counted, counted_start, counted_next, goes_on, stops, counted_place}
+use Rattle.cut.proofs.Walk.{Counted}
 use Rattle.cut.proofs.start_of.Given as goal
 
 abbrev pub invariant-loop-i : goal.invariant-loop-i

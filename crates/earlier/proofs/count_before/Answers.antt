@@ -1,4 +1,4 @@
-use Rattle.earlier.proofs.Between.{Between, start, raised, lowered, met_count}
+use Rattle.earlier.proofs.Between.{raised, lowered, met_count}
 use native.Mathlib.Omega.{arith}
 use Prim.Native.Nat.{◌+◌, ◌-◌, ◌/◌}
 use Rattle.earlier.proofs.count_before.Goals as goal

@@ -1,6 +1,5 @@
-use Rattle.earlier.proofs.Between.{Between, start, raised, lowered, met_count}
-use native.Mathlib.Omega.{arith}
-use Prim.Native.Nat.{◌+◌, ◌-◌, ◌/◌}
+use Rattle.earlier.proofs.Between.{Between}
+use Prim.Native.Nat.{◌-◌}
 use Rattle.earlier.proofs.count_before.Given as goal
 
 abbrev pub invariant-loop-low : goal.invariant-loop-low

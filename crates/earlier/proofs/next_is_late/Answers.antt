@@ -1,6 +1,5 @@
 use borrow.Author.Tests.{le-leb, lt-leb}
 use Rattle.earlier.specs.Held.{next_is_late}
-use borrow.Author.Rules.{rules}
 use Rattle.earlier.proofs.next_is_late.Goals as goal
 
 pub returns-then-quotes-n : goal.returns-then-quotes-n

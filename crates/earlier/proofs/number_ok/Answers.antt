@@ -1,7 +1,6 @@
 use Rattle.earlier.proofs.Number.{too_many, by_two}
 use mathlib.Core.Bool.{◌&&◌}
 use mathlib.Core.Path.{ap₂, ◌∙◌}
-use borrow.Author.Rules.{rules}
 use Rattle.earlier.proofs.number_ok.Goals as goal
 
 pub returns-then-quotes-before : goal.returns-then-quotes-before

@@ -1,7 +1,6 @@
 use Rattle.earlier.proofs.Number.{before_none, before_count}
 use Rattle.quotes.proofs.Accepted.{all_rising}
 use mathlib.Core.Path.{sym, ◌∙◌}
-use borrow.Author.Rules.{rules}
 use Rattle.earlier.proofs.quotes_before.Goals as goal
 
 pub returns-then-check_quotes-ne0 : goal.returns-then-check_quotes-ne0

@@ -1,11 +1,10 @@
-use Prim.Native.Nat.{ℕ, ◌<◌}
-use mathlib.Core.Path.{◌≡◌, refl, sym, ap₂}
+use Prim.Native.Nat.{ℕ}
+use mathlib.Core.Path.{◌≡◌, refl}
 use mathlib.Core.Bool.{Bool, true, false, ◌&&◌, ◌||◌, and-false, false≢true}
 use lib.Dec.{ltb}
 use borrow.Author.Tests.{ltb-true}
 use Rattle.wire.proofs.Tests.{range_low, lt_lit}
 use Rattle.refusals.specs.Tests.{code_byte_ok}
-use borrow.Author.Rules.{rules}
 use Rattle.faults.proofs.bytes_ok.Goals as goal
 
 -- no byte below '0' is allowed

@@ -1,6 +1,5 @@
 use native.Mathlib.Nat.{add-zero}
 use Rattle.refusals.specs.Tests.{code_ok}
-use borrow.Author.Rules.{rules}
 use Rattle.faults.proofs.code_at.Goals as goal
 
 pub returns : goal.returns

@@ -1,4 +1,3 @@
-use Prim.Native.Nat.{◌<◌, ◌≤◌}
 use native.Mathlib.Omega.{arith}
 use Rattle.wire.proofs.Tests.{range_in, range_low, range_high}
 use Rattle.refusals.specs.Tests.{code_byte_ok}

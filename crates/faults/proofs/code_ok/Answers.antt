@@ -1,5 +1,4 @@
 use Rattle.refusals.specs.Tests.{code_ok}
-use borrow.Author.Rules.{rules}
 use Rattle.faults.proofs.code_ok.Goals as goal
 
 pub returns : goal.returns

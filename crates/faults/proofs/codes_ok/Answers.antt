@@ -1,7 +1,5 @@
 use mathlib.Core.Path.{sym, ◌∙◌}
-use Rattle.wire.proofs.Tests.{fails, holds}
 use Rattle.refusals.specs.Tests.{codes_ok}
-use borrow.Author.Rules.{rules}
 use Rattle.faults.proofs.codes_ok.Goals as goal
 
 pub returns-then-not-code_ok : goal.returns-then-not-code_ok

@@ -1,7 +1,5 @@
 use mathlib.Core.Path.{sym, ◌∙◌}
-use Rattle.wire.proofs.Tests.{fails, holds}
 use Rattle.faults.proofs.Row.{codes_stop, codes_pass}
-use borrow.Author.Rules.{rules}
 use Rattle.faults.proofs.fault.Goals as goal
 
 pub returns-then-not-codes_ok : goal.returns-then-not-codes_ok

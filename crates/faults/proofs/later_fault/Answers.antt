@@ -1,7 +1,5 @@
 use mathlib.Core.Path.{sym, ◌∙◌}
-use Rattle.wire.proofs.Tests.{fails, holds}
 use Rattle.faults.proofs.Row.{prices_stop, counts_stop, times_stop, limits_stop, agreement_stops}
-use borrow.Author.Rules.{rules}
 use Rattle.faults.proofs.later_fault.Goals as goal
 
 pub returns-then-not-prices_ok : goal.returns-then-not-prices_ok

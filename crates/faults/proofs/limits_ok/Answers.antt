@@ -1,7 +1,6 @@
 use mathlib.Core.Path.{ap, ap₂}
 use mathlib.Core.Bool.{not, ◌&&◌}
 use Rattle.refusals.specs.Tests.{limits_ok}
-use borrow.Author.Rules.{rules}
 use Rattle.faults.proofs.limits_ok.Goals as goal
 
 pub returns : goal.returns

@@ -2,7 +2,6 @@ use mathlib.Core.Path.{ap, ap₂}
 use mathlib.Core.Bool.{◌&&◌}
 use lib.Dec.{leb}
 use Rattle.refusals.specs.Tests.{times_ok}
-use borrow.Author.Rules.{rules}
 use Rattle.faults.proofs.times_ok.Goals as goal
 
 pub returns : goal.returns

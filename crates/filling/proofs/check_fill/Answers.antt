@@ -2,7 +2,6 @@ use Rattle.filling.proofs.Answers.{tried_none, tried}
 use Rattle.record.specs.Record.{facts_of}
 use Rattle.cases.proofs.Laws.{passed_whole}
 use mathlib.Core.Path.{sym, ◌∙◌}
-use borrow.Author.Rules.{rules}
 use Rattle.filling.proofs.check_fill.Goals as goal
 
 pub returns-then-fault-ne0 : goal.returns-then-fault-ne0

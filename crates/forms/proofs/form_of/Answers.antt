@@ -1,9 +1,4 @@
-use mathlib.Core.Path.{ap, ◌∙◌}
-use Prim.Native.Nat.{ℕ}
 use borrow.Author.Tests.{lt-ltb, le-ltb}
-use borrow.Author.Rules.{rules}
-use Rattle.facts.specs.Numbers.{mills}
-use Rattle.forms.specs.Words.{Two}
 use Rattle.forms.specs.Forms.{form_of}
 use Rattle.forms.proofs.form_of.Goals as goal
 

@@ -2,7 +2,6 @@ use borrow.Author.Tests.{eq-eqb, ne_eqb}
 use mathlib.Core.Path.{◌≡◌}
 use Rattle.halves.specs.Halves.{size_if}
 use Rattle.halves.specs.Words.{At, None}
-use borrow.Author.Rules.{rules}
 use Rattle.halves.proofs.size_if.Goals as goal
 
 pub returns-in_default : goal.returns-in_default

@@ -1,7 +1,6 @@
 use native.Mathlib.Omega.{arith}
 use Rattle.phrases.specs.Phrases.{refusal_words}
 use Rattle.phrases.proofs.Table.{no_words}
-use borrow.Author.Rules.{rules}
 use Rattle.phrases.proofs.add_case_words.Goals as goal
 
 pub returns-in-1 : goal.returns-in-1

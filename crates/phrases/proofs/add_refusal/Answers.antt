@@ -1,7 +1,6 @@
 use native.Mathlib.Omega.{arith}
 use Rattle.text.proofs.Placed.{placed_next}
 use Rattle.phrases.specs.Phrases.{refusal_text}
-use borrow.Author.Rules.{rules}
 use Rattle.phrases.proofs.add_refusal.Goals as goal
 
 pub returns : goal.returns

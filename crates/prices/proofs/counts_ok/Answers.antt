@@ -2,9 +2,7 @@ use Prim.Native.Nat.{ℕ}
 use mathlib.Core.Path.{ap₂}
 use mathlib.Core.Bool.{Bool, ◌&&◌}
 use lib.Dec.{leb}
-use Rattle.wire.proofs.Tests.{fails, holds}
 use Rattle.refusals.specs.Tests.{counts_ok}
-use borrow.Author.Rules.{rules}
 use Rattle.prices.proofs.counts_ok.Goals as goal
 
 abbrev counted : ℕ → Bool

@@ -1,5 +1,4 @@
 use Rattle.wire.specs.Tests.{in_range}
-use borrow.Author.Rules.{rules}
 use Rattle.prices.proofs.differential_ok.Goals as goal
 
 pub returns-in-At : goal.returns-in-At

@@ -1,8 +1,6 @@
 use mathlib.Core.Path.{sym, ap, ap₂, ◌∙◌}
 use mathlib.Core.Bool.{◌&&◌}
-use Rattle.wire.proofs.Tests.{fails, holds}
 use Rattle.refusals.specs.Tests.{differential_ok, prices_ok}
-use borrow.Author.Rules.{rules}
 use Rattle.prices.proofs.prices_ok.Goals as goal
 
 pub returns-then-not-mills_ok : goal.returns-then-not-mills_ok

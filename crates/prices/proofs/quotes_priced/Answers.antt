@@ -1,7 +1,6 @@
 use mathlib.Core.Path.{ap₂}
 use mathlib.Core.Bool.{◌&&◌}
 use Rattle.refusals.specs.Tests.{quotes_priced}
-use borrow.Author.Rules.{rules}
 use Rattle.prices.proofs.quotes_priced.Goals as goal
 
 pub returns : goal.returns

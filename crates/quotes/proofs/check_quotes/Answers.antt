@@ -1,7 +1,5 @@
 use Rattle.quotes.proofs.Records.{not_whole, list_refused, time_tells}
-use Rattle.wire.proofs.Tests.{fails, holds}
 use mathlib.Core.Path.{sym, ◌∙◌}
-use borrow.Author.Rules.{rules}
 use Rattle.quotes.proofs.check_quotes.Goals as goal
 
 pub returns-then-not-whole_quotes : goal.returns-then-not-whole_quotes

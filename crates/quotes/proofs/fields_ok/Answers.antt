@@ -1,6 +1,4 @@
 use Rattle.quotes.proofs.Sides.{bad_exchange, bad_time, bad_bid, offer_tells}
-use Rattle.wire.proofs.Tests.{fails, holds}
-use borrow.Author.Rules.{rules}
 use Rattle.quotes.proofs.fields_ok.Goals as goal
 
 pub returns-then-not-exchange : goal.returns-then-not-exchange

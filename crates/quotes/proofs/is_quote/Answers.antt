@@ -1,5 +1,4 @@
 use Rattle.quotes.proofs.Sides.{no_length, kind_tells}
-use borrow.Author.Rules.{rules}
 use Rattle.quotes.proofs.is_quote.Goals as goal
 
 pub returns-then-read_u16-ne28 : goal.returns-then-read_u16-ne28

@@ -1,12 +1,7 @@
-use Rattle.quotes.proofs.Records.{all_left, bad_record, good_record, all_records}
-use Rattle.quotes.specs.Quotes.{posted_from, records_ok, rising_from}
-use Rattle.wire.proofs.Tests.{fails, holds}
-use lib.ListN.{length}
-use borrow.Author.Rules.{rules}
+use Rattle.quotes.proofs.Records.{bad_record, good_record, all_records}
 use native.Mathlib.Omega.{arith}
-use mathlib.Core.Bool.{◌&&◌}
-use mathlib.Core.Path.{◌≡◌, sym, ◌∙◌}
-use Prim.Native.Nat.{◌-◌, ◌≤◌, ◌/◌}
+use mathlib.Core.Path.{sym, ◌∙◌}
+use Prim.Native.Nat.{◌-◌}
 use Rattle.quotes.proofs.list_fault.Goals as goal
 
 pub returns-then-not-record_ok : goal.returns-then-not-record_ok

@@ -1,10 +1,7 @@
-use Rattle.quotes.proofs.Records.{all_left, bad_record, good_record, all_records}
 use Rattle.quotes.specs.Quotes.{posted_from, records_ok, rising_from}
-use Rattle.wire.proofs.Tests.{fails, holds}
 use lib.ListN.{length}
-use native.Mathlib.Omega.{arith}
 use mathlib.Core.Bool.{◌&&◌}
-use mathlib.Core.Path.{◌≡◌, sym, ◌∙◌}
+use mathlib.Core.Path.{◌≡◌}
 use Prim.Native.Nat.{◌-◌, ◌≤◌, ◌/◌}
 use Rattle.quotes.proofs.list_fault.Given as goal
 

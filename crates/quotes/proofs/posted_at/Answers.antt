@@ -1,5 +1,4 @@
 use Rattle.quotes.specs.Quotes.{posted_at}
-use borrow.Author.Rules.{rules}
 use Rattle.quotes.proofs.posted_at.Goals as goal
 
 pub returns : goal.returns

@@ -1,7 +1,5 @@
 use Rattle.quotes.proofs.Sides.{no_quote_lem, fields_tell}
-use Rattle.wire.proofs.Tests.{fails, holds}
 use mathlib.Core.Path.{sym, ◌∙◌}
-use borrow.Author.Rules.{rules}
 use Rattle.quotes.proofs.record_ok.Goals as goal
 
 pub returns-then-not-is_quote : goal.returns-then-not-is_quote

@@ -1,5 +1,4 @@
 use Rattle.record.specs.Record.{party_at}
-use borrow.Author.Rules.{rules}
 use Rattle.record.proofs.buyer_kind.Goals as goal
 
 pub returns : goal.returns

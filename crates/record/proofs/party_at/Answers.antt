@@ -1,5 +1,4 @@
 use Rattle.record.proofs.Read.{party_read}
-use borrow.Author.Rules.{rules}
 use Rattle.record.proofs.party_at.Goals as goal
 
 pub returns : goal.returns

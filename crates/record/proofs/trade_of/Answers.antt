@@ -1,5 +1,4 @@
 use Rattle.record.proofs.Read.{trade_read}
-use borrow.Author.Rules.{rules}
 use Rattle.record.proofs.trade_of.Goals as goal
 
 pub returns : goal.returns

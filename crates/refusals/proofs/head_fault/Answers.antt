@@ -3,10 +3,8 @@ use mathlib.Core.Path.{◌≡◌, sym, ◌∙◌}
 use mathlib.Core.Bool.{Bool, true, false}
 use mathlib.Core.List.{List}
 use Rattle.wire.specs.Tests.{pick}
-use Rattle.wire.proofs.Tests.{fails, holds}
 use Rattle.forms.proofs.Heads.{has_88}
 use Rattle.refusals.specs.Tests.{length_ok, head_ok, head_fault_of}
-use borrow.Author.Rules.{rules}
 use Rattle.refusals.proofs.head_fault.Goals as goal
 
 -- Another length is told before anything else.

@@ -5,7 +5,6 @@ use lib.ListN.{length}
 use lib.Dec.{eqb}
 use Rattle.forms.specs.Heads.{known}
 use Rattle.refusals.specs.Tests.{head_ok}
-use borrow.Author.Rules.{rules}
 use Rattle.refusals.proofs.head_ok.Goals as goal
 
 pub returns : goal.returns

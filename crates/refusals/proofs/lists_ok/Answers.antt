@@ -1,7 +1,6 @@
 use mathlib.Core.Path.{ap₂}
 use mathlib.Core.Bool.{◌&&◌}
 use Rattle.refusals.specs.Tests.{lists_ok}
-use borrow.Author.Rules.{rules}
 use Rattle.refusals.proofs.lists_ok.Goals as goal
 
 pub returns : goal.returns

@@ -3,7 +3,6 @@ use mathlib.Core.Path.{ap₂}
 use mathlib.Core.Bool.{◌&&◌}
 use lib.Dec.{eqb}
 use Rattle.refusals.specs.Tests.{zeros_ok}
-use borrow.Author.Rules.{rules}
 use Rattle.refusals.proofs.zeros_ok.Goals as goal
 
 pub returns : goal.returns

@@ -7,7 +7,6 @@ use Rattle.way.specs.Way.{way_of}
 use Rattle.ruling.specs.Words.{Kind, Trade, Request, Open, Missing, Ruling}
 use Rattle.ruling.specs.Ruling.{no_relief, ruled_if, ruling_of}
 use Rattle.ruling.proofs.Numbers.{ruled}
-use borrow.Author.Rules.{rules}
 use Rattle.ruling.proofs.rule.Goals as goal
 
 -- What is read for the way is the record's own, so the way is that of the record's facts.

@@ -10,7 +10,6 @@ use Rattle.agreement.specs.Agreed.{heeded_of}
 use Rattle.act.specs.Minimum.{minimum_of}
 use Rattle.ruling.specs.Words.{Mills, Kind, Band, Trade, Request, Settlement, Way, Source, Found, Heeded, Ruling}
 use Rattle.ruling.specs.Ruling.{no_relief, settled, ruled_at}
-use borrow.Author.Rules.{rules}
 use Rattle.ruling.proofs.rule_at.Goals as goal
 
 -- What is read for the error, and for agreement, is the record's own.

@@ -3,7 +3,6 @@ use mathlib.Core.Bool.{true, false}
 use Rattle.record.specs.Record.{facts_of}
 use Rattle.ruling.specs.Words.{Trade, Request, Facts, Way, Obvious, Opening, Catastrophic, Missing, Ruling}
 use Rattle.ruling.specs.Ruling.{no_relief, ruled_on, ruled_by}
-use borrow.Author.Rules.{rules}
 use Rattle.ruling.proofs.rule_by.Goals as goal
 
 module _ (f : Facts) {way : Way} {r : Ruling} where

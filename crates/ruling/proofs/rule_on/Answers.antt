@@ -7,7 +7,6 @@ use Rattle.record.specs.Record.{market_of, request_of, facts_of}
 use Rattle.theory.specs.Theory.{theory_of}
 use Rattle.ruling.specs.Words.{Market, Request, Way, Theory, Ruling}
 use Rattle.ruling.specs.Ruling.{waiting, ruled_from, ruled_on}
-use borrow.Author.Rules.{rules}
 use Rattle.ruling.proofs.rule_on.Goals as goal
 
 -- The theoretical price is found from the record's own market.

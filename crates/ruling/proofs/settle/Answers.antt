@@ -8,7 +8,6 @@ use Rattle.agreement.specs.Agreed.{accepted_in_time}
 use Rattle.act.specs.Act.{act_of}
 use Rattle.ruling.specs.Words.{Band, Party, Trade, Request, Settlement, Way, Source, Ignored, Repriced, Act, Ruling}
 use Rattle.ruling.specs.Ruling.{carried_out, settled}
-use borrow.Author.Rules.{rules}
 use Rattle.ruling.proofs.settle.Goals as goal
 
 -- Each group of facts that is read is the record's own, so the act is the one on the record's facts.

@@ -2,7 +2,6 @@ use mathlib.Core.Path.{◌≡◌}
 use native.Mathlib.Omega.{arith}
 use Rattle.spelling.specs.Words.{At, None}
 use Rattle.spelling.specs.Dollars.{dollars_text}
-use borrow.Author.Rules.{rules}
 use Rattle.spelling.proofs.add_dollars.Goals as goal
 
 pub returns-in-At : goal.returns-in-At

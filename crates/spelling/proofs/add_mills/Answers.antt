@@ -1,7 +1,6 @@
 use native.Mathlib.Omega.{arith}
 use Rattle.text.proofs.Placed.{placed_next}
 use Rattle.spelling.specs.Dollars.{mills_text}
-use borrow.Author.Rules.{rules}
 use Rattle.spelling.proofs.add_mills.Goals as goal
 
 pub returns : goal.returns

@@ -1,5 +1,4 @@
 use Rattle.spelling.specs.Times.{time_text}
-use borrow.Author.Rules.{rules}
 use Rattle.spelling.proofs.add_time.Goals as goal
 
 pub returns : goal.returns

@@ -1,5 +1,4 @@
 use Rattle.spelling.specs.Times.{clock_of}
-use borrow.Author.Rules.{rules}
 use Rattle.spelling.proofs.clock_of.Goals as goal
 
 pub returns-then-h-m : goal.returns-then-h-m

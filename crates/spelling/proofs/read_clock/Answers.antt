@@ -1,6 +1,5 @@
 use mathlib.Core.Path.{◌∙◌}
 use Rattle.spelling.specs.Times.{clock_in}
-use borrow.Author.Rules.{rules}
 use Rattle.spelling.proofs.read_clock.Goals as goal
 
 pub returns : goal.returns

@@ -1,9 +1,7 @@
-use Prim.Native.Nat.{◌-◌, ◌≤◌}
-use mathlib.Core.Path.{◌≡◌, refl, ◌∙◌}
+use Prim.Native.Nat.{◌-◌}
+use mathlib.Core.Path.{◌∙◌}
 use native.Mathlib.Omega.{arith}
-use lib.ListN.{length, drop}
-use borrow.Author.Rules.{rules}
-use Rattle.spelling.proofs.Digits.{count_from, count_empty, count_whole, count_end, count_on, count_off, on_range}
+use Rattle.spelling.proofs.Digits.{count_empty, count_whole, count_end, count_on, count_off}
 use Rattle.spelling.proofs.read_count.Goals as goal
 
 pub returns-then-w-eq0 : goal.returns-then-w-eq0

@@ -1,8 +1,7 @@
 use Prim.Native.Nat.{◌-◌, ◌≤◌}
-use mathlib.Core.Path.{◌≡◌, refl, ◌∙◌}
-use native.Mathlib.Omega.{arith}
+use mathlib.Core.Path.{◌≡◌}
 use lib.ListN.{length, drop}
-use Rattle.spelling.proofs.Digits.{count_from, count_empty, count_whole, count_end, count_on, count_off, on_range}
+use Rattle.spelling.proofs.Digits.{count_from}
 use Rattle.spelling.proofs.read_count.Given as goal
 
 abbrev pub invariant-loop-i : goal.invariant-loop-i

@@ -1,7 +1,5 @@
-use native.Mathlib.Omega.{arith}
 use Rattle.wire.specs.Tests.{in_range}
 use Rattle.spelling.specs.Times.{two_digits}
-use Rattle.spelling.proofs.Digits.{two_in}
 use Rattle.spelling.proofs.two_digits.Goals as goal
 
 pub returns-then-a-b : goal.returns-then-a-b

@@ -1,7 +1,6 @@
 use mathlib.Core.Path.{refl}
 use native.Mathlib.Omega.{arith}
 use Rattle.text.proofs.Placed.{set_first}
-use borrow.Author.Rules.{rules}
 use Rattle.text.proofs.add_byte.Goals as goal
 
 pub returns : goal.returns

@@ -1,9 +1,7 @@
-use Prim.Native.Nat.{◌+◌, ◌/◌, ◌≤◌}
-use mathlib.Core.Path.{◌≡◌}
+use Prim.Native.Nat.{◌/◌}
 use native.Mathlib.Omega.{arith}
-use borrow.Author.Rules.{rules}
-use lib.ListN.{length, length-set}
-use Rattle.text.specs.Text.{laid_at, decimal_of}
+use lib.ListN.{length-set}
+use Rattle.text.specs.Text.{decimal_of}
 use Rattle.text.proofs.Placed.{set_first, set_before}
 use Rattle.text.proofs.Decimal.{decimal_one, decimal_more, more_long, decimal_length}
 use Rattle.text.proofs.add_decimal.Goals as goal

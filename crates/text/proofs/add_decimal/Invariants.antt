@@ -1,10 +1,7 @@
-use Prim.Native.Nat.{◌+◌, ◌/◌, ◌≤◌}
+use Prim.Native.Nat.{◌+◌, ◌≤◌}
 use mathlib.Core.Path.{◌≡◌}
-use native.Mathlib.Omega.{arith}
-use lib.ListN.{length, length-set}
+use lib.ListN.{length}
 use Rattle.text.specs.Text.{laid_at, decimal_of}
-use Rattle.text.proofs.Placed.{set_first, set_before}
-use Rattle.text.proofs.Decimal.{decimal_one, decimal_more, more_long, decimal_length}
 use Rattle.text.proofs.add_decimal.Given as goal
 
 abbrev pub invariant-loop-rest : goal.invariant-loop-rest

@@ -2,7 +2,6 @@ use mathlib.Core.Path.{◌≡◌}
 use Rattle.text.specs.Words.{At, None}
 use native.Mathlib.Omega.{arith}
 use Rattle.text.specs.Text.{price_text}
-use borrow.Author.Rules.{rules}
 use Rattle.text.proofs.add_price.Goals as goal
 
 pub returns-in-At : goal.returns-in-At

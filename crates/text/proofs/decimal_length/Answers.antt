@@ -1,8 +1,4 @@
-use Prim.Native.Nat.{◌+◌, ◌≤◌}
-use mathlib.Core.Path.{◌≡◌}
 use native.Mathlib.Omega.{arith}
-use lib.ListN.{length}
-use Rattle.text.specs.Text.{decimal_of}
 use Rattle.text.proofs.Decimal.{one_long, more_long, decimal_length}
 use Rattle.text.proofs.decimal_length.Goals as goal
 

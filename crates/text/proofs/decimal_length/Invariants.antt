@@ -1,9 +1,7 @@
 use Prim.Native.Nat.{◌+◌, ◌≤◌}
 use mathlib.Core.Path.{◌≡◌}
-use native.Mathlib.Omega.{arith}
 use lib.ListN.{length}
 use Rattle.text.specs.Text.{decimal_of}
-use Rattle.text.proofs.Decimal.{one_long, more_long, decimal_length}
 use Rattle.text.proofs.decimal_length.Given as goal
 
 abbrev pub invariant-loop-n : goal.invariant-loop-n

@@ -7,7 +7,6 @@ use Rattle.width.specs.Width.{wide}
 use Rattle.theory.specs.Words.{Price, Form, Market, Side, Quote, Theory}
 use Rattle.theory.specs.Theory.{source_of, too_wide, theory_of, theory_number, theory_origin, trusted_price, origin_among, or_else}
 use Rattle.theory.proofs.Prices.{theory_number_lem, theory_origin_lem, theory_wide, theory_trusted}
-use borrow.Author.Rules.{rules}
 use Rattle.theory.proofs.find_theory.Goals as goal
 
 -- what the two calls say of the quotes

@@ -4,7 +4,6 @@ use Rattle.facts.specs.Numbers.{seconds}
 use Rattle.way.specs.Words.{Day, Seconds}
 use Rattle.way.specs.Times.{is_trade_date, is_next_day, no_later}
 use Rattle.way.specs.Way.{catastrophic_open}
-use borrow.Author.Rules.{rules}
 use Rattle.way.proofs.catastrophic_open.Goals as goal
 
 module _ (day : Day) (filed : Seconds) {expiry dated timely : Bool} where

@@ -1,6 +1,5 @@
 use Rattle.way.specs.Way.{way_of}
 use mathlib.Core.Path.{sym, ◌∙◌}
-use borrow.Author.Rules.{rules}
 use Rattle.way.proofs.find_way.Goals as goal
 
 pub returns-then-obvious_open : goal.returns-then-obvious_open

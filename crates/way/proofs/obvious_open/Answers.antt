@@ -3,7 +3,6 @@ use mathlib.Core.Bool.{◌&&◌}
 use Rattle.way.specs.Words.{Seconds}
 use Rattle.way.specs.Times.{within}
 use Rattle.way.specs.Way.{obvious_open}
-use borrow.Author.Rules.{rules}
 use Rattle.way.proofs.obvious_open.Goals as goal
 
 pub returns : goal.returns

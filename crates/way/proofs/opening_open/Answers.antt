@@ -1,7 +1,6 @@
 use mathlib.Core.Path.{refl, ap, ap₂}
 use mathlib.Core.Bool.{not, ◌&&◌}
 use Rattle.way.specs.Way.{opening_open}
-use borrow.Author.Rules.{rules}
 use Rattle.way.proofs.opening_open.Goals as goal
 
 pub returns : goal.returns

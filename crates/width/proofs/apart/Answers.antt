@@ -1,6 +1,5 @@
 use mathlib.Core.Path.{refl}
 use Rattle.width.specs.Width.{apart}
-use borrow.Author.Rules.{rules}
 use Rattle.width.proofs.apart.Goals as goal
 
 pub returns : goal.returns

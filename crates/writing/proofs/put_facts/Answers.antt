@@ -1,5 +1,4 @@
 use Rattle.writing.proofs.Written.{written}
-use borrow.Author.Rules.{rules}
 use Rattle.writing.proofs.put_facts.Goals as goal
 
 pub returns : goal.returns

@@ -1,0 +1,16 @@
+use Prim.Native.Nat.{◌-◌}
+use mathlib.Core.Path.{◌≡◌}
+use native.Mathlib.Omega.{arith}
+use borrow.Author.Rules.{rules}
+use Rattle.quotes.specs.Quotes.{posted_in}
+use Rattle.earlier.specs.Earlier.{earlier}
+use Rattle.standing.specs.Standing.{sayer_of}
+use Rattle.standing.proofs.Turns.{Turn, first, next_turn}
+use Rattle.standing.proofs.add_sayers.Goals as goal
+
+pub loop-i-init : goal.loop-i-init
+loop-i-init c = first _ _ _ (omega arith)
+
+pub loop-i-preserved : goal.loop-i-preserved
+loop-i-preserved c = let v = rw c.last_before-last.ensures at c.add_sayer-next.ensures in
+    next_turn _ _ _ (omega arith) _ _ _ _ _ c.loop-i.invariant (omega arith) v (omega arith)
