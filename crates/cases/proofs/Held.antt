@@ -1,8 +1,6 @@
 -- What the type of the facts gives, out of the reading that Rattle has of every value of it: field by field, in the order of the source.
-use mathlib.Core.Path.{sym, ◌∙◌}
 use mathlib.Core.List.{List}
 use native.Mathlib.Omega.{arith}
-use lib.ListN.{length-map}
 use mir.Val.{Val}
 use denote.Laws.{Is}
 use denote.Struct.Declared.{row}

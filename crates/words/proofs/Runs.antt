@@ -1,10 +1,10 @@
 -- A run of rows: what has been written from a place on, and rows more.
 use Prim.Native.Nat.{ℕ, ◌+◌, ◌≤◌}
 use mathlib.Core.Path.{◌≡◌, refl, ap}
-use mathlib.Core.Bool.{Bool, true, false}
+use mathlib.Core.Bool.{Bool, true}
 use mathlib.Core.List.{List, [], ◌∷◌, ◌++◌, append_assoc, append-nil}
 use native.Mathlib.Omega.{arith}
-use lib.ListN.{length, take, take-append-drop}
+use lib.ListN.{length, take-append-drop}
 use lib.Seq.{length-take-le}
 use Rattle.wire.specs.Tests.{pick}
 use Rattle.wire.specs.Laid.{laid}

@@ -2,7 +2,6 @@ use Rattle.wire.specs.Numbers.{bytes}
 use Rattle.wire.proofs.Stored.{next}
 use Rattle.wire.proofs.Laid.{stores}
 use Rattle.sheet.specs.Sheet.{refusal_bytes}
-use borrow.Author.Rules.{rules}
 use Rattle.sheet.proofs.put_refusal.Goals as goal
 
 pub returns : goal.returns

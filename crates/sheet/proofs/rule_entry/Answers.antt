@@ -3,7 +3,6 @@ use native.Mathlib.Omega.{arith}
 use Rattle.cases.proofs.Laws.{passed_whole}
 use Rattle.answer.proofs.Written.{answered}
 use Rattle.sheet.proofs.Entries.{enter_ruled, enter_refused}
-use borrow.Author.Rules.{rules}
 use Rattle.sheet.proofs.rule_entry.Goals as goal
 
 pub judge-f-requires : goal.judge-f-requires

@@ -4,14 +4,13 @@ use mathlib.Core.List.{[]}
 use native.Mathlib.Omega.{arith}
 use lib.ListN.{length, length-take, length-drop}
 use Rattle.cut.proofs.Walk.{at_more, at_is}
-use borrow.Author.Rules.{rules}
 use Rattle.wire.proofs.Tests.{fails, holds}
 use Rattle.wire.proofs.Laid.{laid_none, ends}
 use Rattle.cut.specs.Cut.{cases_in}
 use Rattle.sheet.specs.Words.{SheetAnswer}
 use Rattle.sheet.specs.Sheet.{entry_bytes}
 use Rattle.sheet.proofs.Entries.{entry_most}
-use Rattle.sheet.proofs.Turns.{Turn, first, next, sheet_refused, sheet_room, whole_few, sheet_ruled, bytes_most, few_more}
+use Rattle.sheet.proofs.Turns.{first, next, sheet_refused, sheet_room, whole_few, sheet_ruled, bytes_most, few_more}
 use Rattle.sheet.proofs.rule_sheet.Goals as goal
 
 pub returns-then-not-c : goal.returns-then-not-c

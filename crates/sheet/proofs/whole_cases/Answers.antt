@@ -2,7 +2,6 @@ use mathlib.Core.Path.{ap}
 use mathlib.Core.Bool.{Bool, ◌&&◌}
 use lib.ListN.{length}
 use lib.Dec.{leb}
-use borrow.Author.Rules.{rules}
 use Rattle.sheet.specs.Sheet.{whole_cases}
 use Rattle.sheet.proofs.whole_cases.Goals as goal
 

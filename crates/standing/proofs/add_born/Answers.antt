@@ -3,7 +3,6 @@ use Rattle.text.proofs.Placed.{placed_next}
 use Rattle.quotes.specs.Quotes.{posted_in}
 use Rattle.earlier.specs.Earlier.{earlier}
 use Rattle.standing.specs.Standing.{sayers_text, born_text}
-use borrow.Author.Rules.{rules}
 use Rattle.standing.proofs.add_born.Goals as goal
 
 pub returns : goal.returns

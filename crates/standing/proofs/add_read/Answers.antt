@@ -1,7 +1,6 @@
 use native.Mathlib.Omega.{arith}
 use Rattle.text.proofs.Placed.{placed_next}
 use Rattle.standing.specs.Standing.{read_line}
-use borrow.Author.Rules.{rules}
 use Rattle.standing.proofs.add_read.Goals as goal
 
 pub returns : goal.returns

@@ -1,11 +1,6 @@
 use Prim.Native.Nat.{◌-◌}
-use mathlib.Core.Path.{◌≡◌}
 use native.Mathlib.Omega.{arith}
-use borrow.Author.Rules.{rules}
-use Rattle.quotes.specs.Quotes.{posted_in}
-use Rattle.earlier.specs.Earlier.{earlier}
-use Rattle.standing.specs.Standing.{sayer_of}
-use Rattle.standing.proofs.Turns.{Turn, first, next_turn}
+use Rattle.standing.proofs.Turns.{first, next_turn}
 use Rattle.standing.proofs.add_sayers.Goals as goal
 
 pub loop-i-init : goal.loop-i-init

@@ -1,10 +1,8 @@
 use Prim.Native.Nat.{◌-◌}
-use mathlib.Core.Path.{◌≡◌}
-use native.Mathlib.Omega.{arith}
 use Rattle.quotes.specs.Quotes.{posted_in}
 use Rattle.earlier.specs.Earlier.{earlier}
 use Rattle.standing.specs.Standing.{sayer_of}
-use Rattle.standing.proofs.Turns.{Turn, first, next_turn}
+use Rattle.standing.proofs.Turns.{Turn}
 use Rattle.standing.proofs.add_sayers.Given as goal
 
 abbrev pub invariant-loop-i : goal.invariant-loop-i

@@ -1,7 +1,6 @@
 use native.Mathlib.Omega.{arith}
 use Rattle.text.proofs.Placed.{ran_first, ran_next}
 use Rattle.standing.specs.Standing.{lookup_line}
-use borrow.Author.Rules.{rules}
 use Rattle.standing.proofs.put_refused.Goals as goal
 
 pub returns : goal.returns

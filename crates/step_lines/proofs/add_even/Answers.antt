@@ -1,0 +1,13 @@
+use Prim.Native.Nat.{◌≤◌}
+use native.Mathlib.Omega.{arith}
+use lib.ListN.{length}
+use Rattle.words.proofs.Runs.{no_rows, row_more}
+use Rattle.step_lines.specs.Act.{limit_row, opening_rule}
+use Rattle.step_lines.proofs.add_even.Goals as goal
+
+pub returns : goal.returns
+returns c = let a = c.args in let room : a.at ≤ length a.out.now = omega (arith, c.requires) in
+    let r0 = no_rows a.at a.out.now room in
+    let r1 = row_more a.at _ _ _ _ _ _ _ _ _ room r0 c.itself_row.ensures c.add_row-next.ensures in
+    let r2 = row_more a.at _ _ _ _ _ (limit_row (opening_rule a.even.maker) a.even.tested) _ _ _ room r1 (simp c.either-rule.ensures at c.limit_row.ensures) c.add_row.ensures in
+    (r2.0, r2.1, omega (arith, c.add_row-next.ensures.2, c.add_row.ensures.2))
