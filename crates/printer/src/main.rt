@@ -78,7 +78,10 @@ fn main(rt: HostRuntime) {
     let mut sheet = [0u8; 52801];
     let input = read_sheet(&mut rt.stdin(), &mut sheet);
     if input.failed {
-        write_line(&mut rt.stderr(), b"printer: standard input cannot be read\n");
+        write_line(
+            &mut rt.stderr(),
+            b"printer: standard input cannot be read\n",
+        );
         return;
     }
     let n = input.bytes;

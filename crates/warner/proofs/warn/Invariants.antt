@@ -1,0 +1,12 @@
+-- The pieces so far were appended.
+use Rattle.std.proofs.Common.{◌-◌, ◌≤◌}
+use Rattle.std.specs.Io.KnownBytes.{Appends}
+use Rattle.wire.specs.Laid.{row}
+use Rattle.warnings.specs.Warned.{warned_piece}
+use Rattle.warner.proofs.warn.Given as goal
+
+abbrev pub invariant-loop-k : goal.invariant-loop-k
+invariant-loop-k g l = (l.k ≤ 600) × Appends (g.W.Write.contents l.initial.output) (g.W.Write.contents l.output) (row (warned_piece l.sheet) l.k)
+
+abbrev pub decreases-loop-k : goal.decreases-loop-k
+decreases-loop-k g l = 600 - l.k
