@@ -166,6 +166,7 @@ module _ (s : List ℕ) (room : ℕ) where
   refused_whole_lem : (n : ℕ) → OneOf (10 ∷ 11 ∷ []) n → SheetAnswered s room (refused_whole n)
   refused_whole_lem n (inl e) = inr (inl (ap refused_whole e))
   refused_whole_lem n (inr (inl e)) = inr (inr (ap refused_whole e))
+  refused_whole_lem n (inr (inr none)) = elim none [ ]
 
   sheet_told : Told (10 ∷ 11 ∷ []) number
   unfolding sheet_refusal_of

@@ -1,7 +1,7 @@
 -- Which rows a case has, and which piece of a sheet is which.
-use Prim.Native.Nat.{ℕ, zero, suc, ◌+◌, ◌-◌, ◌≤◌, ◌<◌}
-use mathlib.Core.Path.{◌≡◌, refl, sym, ap, ◌∙◌}
-use mathlib.Core.Bool.{Bool, true, false}
+use Prim.Native.Nat.{ℕ, suc, ◌+◌, ◌-◌, ◌≤◌, ◌<◌}
+use mathlib.Core.Path.{◌≡◌, refl, ap, ◌∙◌}
+use mathlib.Core.Bool.{true, false}
 use mathlib.Core.List.{List, []}
 use native.Mathlib.Omega.{arith}
 use lib.ListN.{length, take, drop}
@@ -18,7 +18,7 @@ use Rattle.blame.specs.Fields.{blame_of}
 use Rattle.blame_lines.specs.Lines.{blame_rows}
 use Rattle.cut.specs.Cut.{case_length}
 use Rattle.cut.proofs.Walk.{at_lent}
-use Rattle.sheet.specs.Sheet.{case_at, cases_in, start_of, whole_cases}
+use Rattle.sheet.specs.Sheet.{cases_in, start_of, whole_cases}
 use Rattle.report.specs.Pieces.{piece_of, pieces_in}
 use Rattle.report.proofs.Pieces.{at_place}
 use Rattle.words.proofs.Runs.{Stand}

@@ -1,13 +1,13 @@
 -- A case of 88 bytes is answered as before: every test says the same of it, and its ruling is the old one.
 use Prim.Native.Nat.{ℕ}
-use mathlib.Core.Path.{◌≡◌, refl, sym, ap, ◌∙◌}
+use mathlib.Core.Path.{◌≡◌, refl, ap, ◌∙◌}
 use mathlib.Core.Bool.{Bool, true, false, ◌&&◌, and-true, and-false, or-false}
-use mathlib.Core.List.{List, []}
+use mathlib.Core.List.{List}
 use lib.ListN.{length}
-use lib.Dec.{leb, eqb}
-use borrow.Author.Tests.{eq-eqb, ne_eqb, eqb-true, eqb-false}
+use lib.Dec.{eqb}
+use borrow.Author.Tests.{ne_eqb, eqb-true, eqb-false}
 use Rattle.wire.specs.Numbers.{number_at}
-use Rattle.wire.specs.Tests.{pick, first_failed}
+use Rattle.wire.specs.Tests.{pick}
 use Rattle.forms.specs.Heads.{pairs, is_length, known}
 use Rattle.forms.specs.Forms.{differential_of}
 use Rattle.forms.proofs.Heads.{form_one}
@@ -19,9 +19,8 @@ use Rattle.theory.specs.Theory.{too_wide}
 use Rattle.notices.specs.Records.{answer_bytes}
 use Rattle.answer.specs.Answer.{case_refusal_of, answer_of, case_of}
 use Rattle.sheet.specs.Sheet.{refusal_bytes, entry_bytes}
-use Rattle.cases.specs.declared.Reading.{Reading}
-use Rattle.kinds.specs.Words.{One, Facts, Ruling}
-use Rattle.kinds.specs.Before.{length_before, head_before, prices_before, tests_before, case_number_before, case_before, number_before, answer_before, entry_before}
+use Rattle.kinds.specs.Words.{One, Ruling}
+use Rattle.kinds.specs.Before.{length_before, head_before, prices_before, case_number_before, case_before, number_before, answer_before, entry_before}
 use Rattle.kinds.proofs.Rulings.{ruling_before_lem}
 
 -- ---- the tests

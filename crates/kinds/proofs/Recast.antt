@@ -1,16 +1,15 @@
 -- A case of kind 2 in bytes: its facts written as those of kind 1, with their quotes or without, are accepted and get the same answer.
-use Prim.Native.Nat.{ℕ, ◌≤◌, ◌<◌}
+use Prim.Native.Nat.{ℕ}
 use mathlib.Core.Path.{◌≡◌, refl, sym, ap, ◌∙◌}
 use mathlib.Core.Bool.{Bool, true, false}
 use mathlib.Core.List.{List}
 use native.Mathlib.Omega.{arith}
-use lib.ListN.{length}
 use lib.Dec.{leb}
 use borrow.Author.Tests.{leb-true, leb-false}
 use Rattle.wire.specs.Numbers.{AreBytes, number_at}
 use Rattle.wire.proofs.Tests.{both_true, none_fails}
 use Rattle.record.specs.Record.{trade_of, party_at, facts_of, record_bytes}
-use Rattle.refusals.specs.Tests.{price_ok, quote_ok, codes_ok, quotes_priced, prices_ok, counts_ok, times_ok, limits_ok, agreement_ok, fault_of}
+use Rattle.refusals.specs.Tests.{quote_ok, codes_ok, quotes_priced, prices_ok, counts_ok, times_ok, limits_ok, agreement_ok, fault_of}
 use Rattle.cases.specs.Cases.{accepted, reading_of, Held}
 use Rattle.cases.specs.declared.Reading.{Reading}
 use Rattle.cases.proofs.Laws.{accepted_facts, accepted_form, formed, accepted_reading}
@@ -21,7 +20,7 @@ use Rattle.answer.proofs.Cases.{case_room, accepted_ruled}
 use Rattle.round_trips.proofs.Again.{sound}
 use Rattle.round_trips.proofs.RoundTrips.{record_read}
 use Rattle.ruling.specs.Ruling.{ruling_of}
-use Rattle.kinds.specs.Words.{One, Market, Facts, Ruling}
+use Rattle.kinds.specs.Words.{Market, Facts, Ruling}
 use Rattle.kinds.specs.Recast.{recast, as_kind_one, without_quotes}
 use Rattle.kinds.proofs.Rulings.{narrow_same, wide_same}
 

@@ -1,5 +1,5 @@
 -- The price that a limit is tested against goes by the theoretical price, as the ruling does.
-use mathlib.Core.Path.{◌≡◌, refl, sym, ap, ◌∙◌}
+use mathlib.Core.Path.{◌≡◌, refl, ap, ◌∙◌}
 use mathlib.Core.Bool.{true, false}
 use Rattle.wire.specs.Tests.{pick}
 use Rattle.bands.specs.Table.{band_of}

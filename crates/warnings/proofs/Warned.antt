@@ -1,6 +1,6 @@
 -- What is told of a case, and which piece of a sheet is which.
 use Prim.Native.Nat.{ℕ, ◌+◌, ◌-◌, ◌≤◌, ◌<◌}
-use mathlib.Core.Path.{◌≡◌, refl, sym, ap, ◌∙◌}
+use mathlib.Core.Path.{◌≡◌, refl, ap, ◌∙◌}
 use mathlib.Core.Bool.{true, false}
 use mathlib.Core.List.{List, [], ◌∷◌, ◌++◌, append_assoc}
 use native.Mathlib.Omega.{arith}
@@ -13,7 +13,7 @@ use Rattle.careful.specs.Careful.{cautions_of, any_caution}
 use Rattle.careful_lines.specs.Lines.{careful_rows}
 use Rattle.cut.specs.Cut.{case_length}
 use Rattle.cut.proofs.Walk.{at_lent}
-use Rattle.sheet.specs.Sheet.{case_at, cases_in, start_of, whole_cases}
+use Rattle.sheet.specs.Sheet.{cases_in, start_of, whole_cases}
 use Rattle.report.proofs.Pieces.{at_place}
 use Rattle.warnings.specs.Words.{Cautions}
 use Rattle.warnings.specs.Warned.{trade_row, warned_text, warned_case, warned_at, warned_piece}
