@@ -57,7 +57,12 @@ fn main(rt: HostRuntime) {
     }
     // A word that fills its buffer is longer than any time is written. The empty one, which is no time, stands for it.
     if typed < 64 {
-        tell(&mut rt.stdout(), &mut rt.stderr(), &quotes[..n], &time[..typed]);
+        tell(
+            &mut rt.stdout(),
+            &mut rt.stderr(),
+            &quotes[..n],
+            &time[..typed],
+        );
     } else {
         tell(&mut rt.stdout(), &mut rt.stderr(), &quotes[..n], b"");
     }

@@ -42,6 +42,9 @@ fn main(rt: HostRuntime) {
         }
     }
     if !warn(&mut rt.stdout(), &sheet[..n]) {
-        streams::write_all(&mut rt.stderr(), b"warner: the warnings cannot be written\n");
+        streams::write_all(
+            &mut rt.stderr(),
+            b"warner: the warnings cannot be written\n",
+        );
     }
 }

@@ -1,4 +1,4 @@
-use Rattle.std.proofs.Common.{◌≡◌, rules, arith, refl, ap, subst, zero-le}
+use Rattle.std.proofs.Common.{◌≡◌, arith, refl, ap, subst}
 use Rattle.std.specs.Io.KnownBytes.{Appends}
 use Rattle.wire.specs.Laid.{row}
 use Rattle.warnings.specs.Warned.{warned_piece, warnings_of}
