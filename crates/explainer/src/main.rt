@@ -61,11 +61,17 @@ fn main(rt: HostRuntime) {
     let n = streams::read_full(&mut rt.stdin(), &mut sheet);
     if n < 65536 {
         if !ended(&mut rt.stdin()) {
-            streams::write_all(&mut rt.stderr(), b"explainer: standard input cannot be read\n");
+            streams::write_all(
+                &mut rt.stderr(),
+                b"explainer: standard input cannot be read\n",
+            );
             return;
         }
     }
     if !tell(&mut rt.stdout(), &sheet[..n], want) {
-        streams::write_all(&mut rt.stderr(), b"explainer: the explanation cannot be written\n");
+        streams::write_all(
+            &mut rt.stderr(),
+            b"explainer: the explanation cannot be written\n",
+        );
     }
 }
