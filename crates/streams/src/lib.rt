@@ -31,19 +31,19 @@ pub fn read_full<R: Read>(input: &mut R, buf: &mut [u8]) -> usize
 pub fn write_all<W: Write>(output: &mut W, bytes: &[u8]) -> bool
     ensures { IsTrue result → Appends (W.contents output.old) (W.contents output.new) bytes.now }
 {
-    let mut done = 0;
-    while done < bytes.len() {
-        match output.write(&bytes[done..]) {
+    let mut written = 0;
+    while written < bytes.len() {
+        match output.write(&bytes[written..]) {
             Ok(0) => return false,
-            Ok(n) => done += n,
+            Ok(n) => written += n,
             Err(_) => return false,
         }
     }
     true
 }
 
-// What stands on file descriptor 3, beside the three that have a name in the library: the system has a name for each. Opened by its name a file is read
-// from its start.
+// What stands on file descriptor 3. The library has a name for the first three alone, so it is opened by the name that the system gives it, and a file is
+// read from its start, wherever the descriptor stood.
 pub fn third<R: Files>(rt: &R) -> io::Result<R::File> {
     File::open(rt, "/proc/self/fd/3")
 }
