@@ -6,10 +6,11 @@ ghost use Rattle.std.specs.Prelude.{take, IsTrue};
 ghost use Rattle.std.specs.Counts.{IsPrefixLen};
 ghost use Rattle.std.specs.Io.KnownBytes.{Appends, Consumes};
 
-use std::fs::File;
-use std::io;
 use std::io::{Read, Write};
-use std::rt::Files;
+
+// The system's name for what stands on file descriptor 3, beside the three that have a name in the library. Opened by its name a file is read from
+// its start.
+pub const THIRD: &str = "/proc/self/fd/3";
 
 // Reads until the buffer is full, the input ends or a read fails. How many bytes were put at the start of the buffer.
 pub fn read_full<R: Read>(input: &mut R, buf: &mut [u8]) -> usize
@@ -31,19 +32,13 @@ pub fn read_full<R: Read>(input: &mut R, buf: &mut [u8]) -> usize
 pub fn write_all<W: Write>(output: &mut W, bytes: &[u8]) -> bool
     ensures { IsTrue result → Appends (W.contents output.old) (W.contents output.new) bytes.now }
 {
-    let mut written = 0;
-    while written < bytes.len() {
-        match output.write(&bytes[written..]) {
+    let mut done = 0;
+    while done < bytes.len() {
+        match output.write(&bytes[done..]) {
             Ok(0) => return false,
-            Ok(n) => written += n,
+            Ok(n) => done += n,
             Err(_) => return false,
         }
     }
     true
-}
-
-// What stands on file descriptor 3. The library has a name for the first three alone, so it is opened by the name that the system gives it, and a file is
-// read from its start, wherever the descriptor stood.
-pub fn third<R: Files>(rt: &R) -> io::Result<R::File> {
-    File::open(rt, "/proc/self/fd/3")
 }

@@ -4,6 +4,6 @@ use Rattle.std.proofs.KnownBytes.{Appends-trans}
 use Rattle.streams.proofs.Parts.{written_more}
 use Rattle.streams.proofs.write_all.Goals as goal
 
-pub loop-written-preserved : goal.loop-written-preserved
-loop-written-preserved g c =
-    (search rules, subst (Appends _ _) (written_more c.loop-written.written c.in-Ok.n c.args.bytes.now) (Appends-trans _ _ _ _ _ c.loop-written.invariant.1 c.in-Ok.ensures.bytes))
+pub loop-done-preserved : goal.loop-done-preserved
+loop-done-preserved g c =
+    (search rules, subst (Appends _ _) (written_more c.loop-done.done c.in-Ok.n c.args.bytes.now) (Appends-trans _ _ _ _ _ c.loop-done.invariant.1 c.in-Ok.ensures.bytes))
