@@ -17,9 +17,9 @@ abbrev pub rows : List Band
 rows =
     --                                      TP in $          obvious  catastrophic
     band 1999 250 1000 1000  --             below 2              .25             1
-    ∷ band 5000 400 2000 2000  --           2 to (5).40             2
-    ∷ band 10000 500 3000 3000  --          above 5 to (10).50             3
-    ∷ band 20000 800 5000 5000  --          above 10 to (20).80             5
+    ∷ band 5000 400 2000 2000  --           2 to 5               .40             2
+    ∷ band 10000 500 3000 3000  --          above 5 to 10        .50             3
+    ∷ band 20000 800 5000 5000  --          above 10 to 20       .80             5
     ∷ band 50000 1000 7000 7000  --         above 20 to 50      1.00             7
     ∷ band 100000 1000 10000 10000  --      above 50 to 100     1.00            10
     ∷ []

@@ -1,4 +1,4 @@
--- What `lookedOf` is, by the tests that lead there.
+-- What `looked_of` is, by the tests that lead there.
 use Prim.Native.Nat.{ℕ}
 use mathlib.Core.Path.{◌≡◌, refl, sym, ap, ◌∙◌}
 use mathlib.Core.Bool.{true, false}

@@ -1,7 +1,7 @@
 -- A lookup with the number of quotes before the trade, and how many quotes were read (RULE R3.28, R16.20 to R16.23, R16.25; R16.13 and R16.14 of calls):
 -- demands 1 and 2 of it. What is found is what the quotes alone decide (Quotes). First of the definitions, then, as "so every call", of what the
 -- promises of the functions allow. `desk_best_quotes` tells in numbers what `find_best` answers: what of its answer has no form in numbers (that it is
--- the best, that it passes the tests) is said of `find_best`, and `desk-best-quotes-found` carries it over.
+-- the best, that it passes the tests) is said of `find_best`, and `desk_best_quotes_found` carries it over.
 use Rattle.std.specs.Prelude.{ℕ, ◌≤◌, ◌≡◌, refl, Bool, true, ◌⊎◌, List, ◌++◌, eqb, length}
 use Rattle.std.proofs.Common.{sym, ◌∙◌, ⊎_elim, arith}
 use Rattle.std.proofs.Math.Path.{ap}

@@ -1,5 +1,5 @@
 -- The four laws the counter relies on (RULE R12.1 to R12.4), then three more. Where a law asks for accepted facts, they pass the tests 4 to 9
--- (`faultOf f ≡ 0`).
+-- (`fault_of f ≡ 0`).
 use Rattle.std.specs.Prelude.{ℕ, ◌≤◌, ◌≡◌, true, length}
 use Rattle.std.proofs.Common.{le_trans, sym, ap, ◌∙◌, lit≤, leb-true}
 use mathlib.Core.List.{List, Permᴰ}

@@ -55,7 +55,7 @@ pub good_ruled : case_of good_case 96 ≡ (0, good_answer)
 unfolding case_of case_refusal_of head_ok zeros_ok lists_ok codes_ok code_ok code_byte_ok prices_ok quotes_priced counts_ok times_ok limits_ok in_range number_at facts_of trade_of market_of request_of party_at settlement_of price_of moment_of side_of kind_of day_of agreement_of flag_of band_of in_error moved_by obvious_adjustment_of way_of obvious_open opening_open catastrophic_open theory_of heeded_of in_time may_nullify obvious_act act_of ruled_at ruled_on ruled_by ruling_of ruling_record shows shown_code notice_record answer_records answer_of is_length known pairs form_of
 good_ruled = refl
 
--- ---- the same trade as a case of kind 2, whose permitted differential is 50 mills: the offer of 1.500 is the bid of 1.400 and twice.050, so both
+-- ---- the same trade as a case of kind 2, whose permitted differential is 50 mills: the offer of 1.500 is the bid of 1.400 and twice .050, so both
 -- quotes are too wide to trust
 
 -- It is accepted, and written back in its 92 bytes.
@@ -124,7 +124,7 @@ pub good_sheet : sheet_of (good_case ++ bad_case ++ opening_case) 288
 unfolding pairs known begins case_length cut_by cut whole sheet_of sheet_refusal_of whole_cases row entry_bytes refusal_bytes ruled_one ruled_in case_at reading_of refused refusal_of head_ok zeros_ok lists_ok codes_ok code_ok code_byte_ok prices_ok quotes_priced counts_ok times_ok limits_ok in_range number_at facts_of trade_of market_of request_of party_at settlement_of price_of moment_of side_of kind_of day_of agreement_of flag_of band_of in_error moved_by obvious_adjustment_of way_of obvious_open opening_open catastrophic_open theory_of heeded_of in_time may_nullify opening_tested opening_stopped obvious_act opening_act act_of ruled_at ruled_on ruled_by ruling_of ruling_record shows shown_code notice_record answer_records answer_of is_length form_of
 good_sheet = refl
 
--- Its cases are all of kind 1: what is said of such sheets (`sheet-as-before`) is said of it.
+-- Its cases are all of kind 1: what is said of such sheets (`sheet_as_before`) is said of it.
 good_long : (k : ℕ) → k < 3 → length (case_at (good_case ++ bad_case ++ opening_case) k) ≡ 88
 unfolding pairs known begins case_length cut_by cut case_at number_at
 good_long zero l = refl

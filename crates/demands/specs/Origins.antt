@@ -1,5 +1,5 @@
 -- Where TP came from (RULE R5.4, R5.5, R10.1.10, R11.2, R12.7): the origin of every ruling, in the bytes of an answer and in the printed line, and that no
--- notice tells it. Demand 3 stays as it is: the origin is in the ruling record, whose 32 bytes are the same (`Demand3.blind-cases`).
+-- notice tells it. Demand 3 stays as it is: the origin is in the ruling record, whose 32 bytes are the same (`Demand3.blind_cases`).
 use Rattle.std.specs.Prelude.{ℕ, ◌≡◌, refl, List, [], ◌∷◌, ◌++◌, take}
 use Rattle.std.proofs.Common.{append_assoc, eq-eqb}
 use contract.Lifetimes.{Lfts}

@@ -8,6 +8,7 @@ ghost use Rattle.std.specs.Io.KnownBytes.{Appends, IsAtEnd};
 ghost use Rattle.explanation.specs.Pieces.{explanation_of};
 
 use explanation::Wanted;
+use std::fs::File;
 use std::io::{Read, Write};
 use std::rt::Files;
 
@@ -22,7 +23,7 @@ fn ended<R: Read>(input: &mut R) -> bool
 
 // Reads which cases are asked for, if it can be read and has no bytes or four.
 fn read_wanted<R: Files>(rt: &R) -> Option<Wanted> {
-    let mut input = streams::third(rt).ok()?;
+    let mut input = File::open(rt, streams::THIRD).ok()?;
     let mut trade = [0u8; 4];
     let brought = streams::read_full(&mut input, &mut trade);
     if !ended(&mut input) | ((brought != 0) & (brought != 4)) {

@@ -8,6 +8,7 @@ ghost use Rattle.std.specs.Counts.{IsPrefixLen};
 ghost use Rattle.std.specs.Io.KnownBytes.{Appends, IsAtEnd};
 ghost use Rattle.fillings.specs.Fillings.{fill_sheet_of};
 
+use std::fs::File;
 use std::io::{Read, Write};
 use std::rt::Files;
 
@@ -27,7 +28,7 @@ fn ended<R: Read>(input: &mut R, n: usize) -> bool
 fn read_quotes<R: Files>(rt: &R, quotes: &mut [u8]) -> Option<usize>
     ensures { IfSome result (λ n. IsPrefixLen n quotes.new) }
 {
-    let mut input = streams::third(rt).ok()?;
+    let mut input = File::open(rt, streams::THIRD).ok()?;
     let m = streams::read_full(&mut input, quotes);
     if !ended(&mut input, m) {
         return None;

@@ -1,4 +1,4 @@
--- What `fillSheetOf` is, by the tests that lead there; the filled sheet is as long as the sheet, is cut into as many cases, and its case k is case k
+-- What `fill_sheet_of` is, by the tests that lead there; the filled sheet is as long as the sheet, is cut into as many cases, and its case k is case k
 -- filled.
 use Prim.Native.Nat.{ℕ, zero, suc, ◌+◌, ◌≤◌, ◌<◌}
 use mathlib.Core.Path.{◌≡◌, refl, sym, ap, ◌∙◌}

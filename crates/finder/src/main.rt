@@ -7,6 +7,7 @@ ghost use Rattle.std.specs.Prelude.{IfSome, IsTrue};
 ghost use Rattle.std.specs.Counts.{IsPrefixLen};
 ghost use Rattle.std.specs.Io.KnownBytes.{IsAtEnd};
 
+use std::fs::File;
 use std::io::{Read, Write};
 use std::rt::Files;
 
@@ -23,7 +24,7 @@ fn ended<R: Read>(input: &mut R) -> bool
 fn read_time<R: Files>(rt: &R, time: &mut [u8]) -> Option<usize>
     ensures { IfSome result (λ n. IsPrefixLen n time.new) }
 {
-    let mut typing = streams::third(rt).ok()?;
+    let mut typing = File::open(rt, streams::THIRD).ok()?;
     let typed = streams::read_full(&mut typing, time);
     if typed < time.len() {
         if !ended(&mut typing) {

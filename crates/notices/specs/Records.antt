@@ -1,4 +1,4 @@
--- What goes out (RULE R10.1, R10.2; document 003, Commentary.03): the ruling record and the two notices, 32 bytes each, a row of the page to a line.
+-- What goes out (RULE R10.1, R10.2; document 003, Commentary .03): the ruling record and the two notices, 32 bytes each, a row of the page to a line.
 use Rattle.std.specs.Prelude.{ℕ, Bool, List, [], ◌∷◌, ◌++◌}
 use Rattle.wire.specs.Numbers.{bytes, elements}
 use Rattle.wire.specs.Tests.{pick, in_range}

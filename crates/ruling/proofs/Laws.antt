@@ -1,4 +1,4 @@
--- The laws of a ruling, each an instance of the one walk. Our table is sound (`bands-sound`); nothing else is asked of it.
+-- The laws of a ruling, each an instance of the one walk. Our table is sound (`bands_sound`); nothing else is asked of it.
 use Prim.Native.Nat.{ℕ, ◌≤◌}
 use mathlib.Core.Path.{◌≡◌, refl}
 use mathlib.Core.Bool.{Bool, true, false}

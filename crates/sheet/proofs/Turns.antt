@@ -1,4 +1,4 @@
--- What `sheetOf` is, by the tests that lead there, and what a turn of the loop adds.
+-- What `sheet_of` is, by the tests that lead there, and what a turn of the loop adds.
 use Prim.Native.Nat.{ℕ, ◌+◌, ◌-◌, ◌*◌, ◌≤◌, ◌<◌}
 use mathlib.Core.Path.{◌≡◌, refl, ◌∙◌}
 use mathlib.Core.Bool.{Bool, true, false}

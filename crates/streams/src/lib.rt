@@ -6,10 +6,11 @@ ghost use Rattle.std.specs.Prelude.{take, IsTrue};
 ghost use Rattle.std.specs.Counts.{IsPrefixLen};
 ghost use Rattle.std.specs.Io.KnownBytes.{Appends, Consumes};
 
-use std::fs::File;
-use std::io;
 use std::io::{Read, Write};
-use std::rt::Files;
+
+// The system's name for what stands on file descriptor 3, beside the three that have a name in the library. Opened by its name a file is read from
+// its start.
+pub const THIRD: &str = "/proc/self/fd/3";
 
 // Reads until the buffer is full, the input ends or a read fails. How many bytes were put at the start of the buffer.
 pub fn read_full<R: Read>(input: &mut R, buf: &mut [u8]) -> usize
@@ -40,10 +41,4 @@ pub fn write_all<W: Write>(output: &mut W, bytes: &[u8]) -> bool
         }
     }
     true
-}
-
-// What stands on file descriptor 3, beside the three that have a name in the library: the system has a name for each. Opened by its name a file is read
-// from its start.
-pub fn third<R: Files>(rt: &R) -> io::Result<R::File> {
-    File::open(rt, "/proc/self/fd/3")
 }

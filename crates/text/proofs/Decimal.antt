@@ -1,4 +1,4 @@
--- The laws of `decimalOf`: how it is spelled digit by digit, 1 to 10 bytes, all digits, no leading zero, and its value is the number.
+-- The laws of `decimal_of`: how it is spelled digit by digit, 1 to 10 bytes, all digits, no leading zero, and its value is the number.
 use Prim.Native.Nat.{ℕ, zero, suc, ◌+◌, ◌-◌, ◌*◌, ◌/◌, ◌%◌, ◌^◌, ◌≤◌, ◌<◌}
 use mathlib.Core.Path.{◌≡◌, refl, sym, ap, ◌∙◌}
 use mathlib.Core.Bool.{true}

@@ -1,4 +1,4 @@
--- The laws of `laidAt`, and of a run of appends.
+-- The laws of `laid_at`, and of a run of appends.
 use Prim.Native.Nat.{ℕ, ◌+◌, ◌-◌, ◌≤◌, ◌<◌}
 use mathlib.Core.Path.{◌≡◌, refl, sym, ◌∙◌}
 use mathlib.Core.List.{List, [], ◌∷◌, ◌++◌, append_assoc}

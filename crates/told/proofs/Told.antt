@@ -1,6 +1,6 @@
 -- What the rows of a ruled case tell is so. Every number that they tell with a place in the record stands at that place, and the record has that place: of any
--- bytes that have the form of a case, and so of every case that is accepted (`told-stand`, `told-accepted`). The head and the contracts, which have no place, are those of
--- the ruling: it makes no difference whether they are taken from the ruling or from the steps (`ruling-told`).
+-- bytes that have the form of a case, and so of every case that is accepted (`told_stand`, `told_accepted`). The head and the contracts, which have no place, are those of
+-- the ruling: it makes no difference whether they are taken from the ruling or from the steps (`ruling_told`).
 use Prim.Native.Nat.{ℕ}
 use mathlib.Core.Path.{◌≡◌, refl, sym, ap, subst}
 use mathlib.Core.Bool.{Bool, true, false}
