@@ -228,17 +228,13 @@ fn rule_by(case: &[u8], way: Way) -> Ruling
     requires { 88 ≤ length case.now }
     ensures { result ≡ ruled_by (facts_of case.now) way }
 {
-    match way {
-        Way::Obvious => rule_on(case, way),
-        Way::Opening => rule_on(case, way),
-        Way::Catastrophic => {
-            let request = record::request_of(case);
-            if request.decided {
-                return no_relief(record::trade_of(case), 3, Theory::Missing);
-            }
-            rule_on(case, way)
+    if let Way::Catastrophic = way {
+        let request = record::request_of(case);
+        if request.decided {
+            return no_relief(record::trade_of(case), 3, Theory::Missing);
         }
     }
+    rule_on(case, way)
 }
 
 // The ruling on the facts of a case: the way first. In the page's numbers, outcome, price and counts are those of its reason.
