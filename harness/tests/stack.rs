@@ -47,7 +47,7 @@ fn little_stack() {
     let mut rule_case = Call::new("desk_rule_case", 184);
     let mut rule_sheet = Call::new("desk_rule_sheet", 232);
     let mut print_sheet = Call::new("desk_print_sheet", 280);
-    let mut explain_case = Call::new("desk_explain_case", 3072);
+    let mut explain_case = Call::new("desk_explain_case", 6704);
 
     let mut random = Random::new(settings::seed());
     let mixture = Mixture::default();
