@@ -2,34 +2,32 @@
 -- refused call returns its number and writes nothing; a bad case in a good sheet gets one refusal record.
 -- First what the definitions answer, then, as "so every call", what the promises of the functions allow. `crate.function.Reads.Post` is a
 -- promise as Rattle reads it from the contract in the source: of the arguments, the answer, and the arguments afterwards; `Asked` is what
--- the function asks of its caller. `Ends` says in which ways a call ends.
-use Rattle.std.specs.Prelude.{ℕ, ◌≤◌, ◌<◌, ◌≡◌, true, false, ◌⊎◌, List, [], ◌∷◌, ◌++◌, length, leb}
+-- the function asks of its caller. `Ends` says in which ways a call ends; what rests on its lists of numbers and ways stands in proofs/Demand1.antt.
+use Rattle.std.specs.Prelude.{ℕ, ◌≤◌, ◌≡◌, true, false, List, [], ◌∷◌, ◌++◌, length, leb}
 use contract.Lifetimes.{Lfts}
 use Rattle.std.specs.Borrow.{Bor, MutBor}
 use Rattle.wire.specs.Laid.{laid}
 use Rattle.forms.specs.Forms.{form_length}
 use Rattle.record.specs.Record.{facts_of, record_bytes}
 use Rattle.record.proofs.Lengths.{long_as_form}
-use Rattle.refusals.specs.Tests.{form_tests, fact_tests}
+use Rattle.refusals.specs.Tests.{fact_tests}
 use Rattle.cases.specs.Words.{Facts}
-use Rattle.cases.specs.declared.Reading.{Reading}
-use Rattle.cases.specs.Cases.{refusal_of, reading_of, write_refusal_of, writing_of}
-use Rattle.fillings.specs.Fillings.{fill_number, fill_sheet_refusal_of}
+use Rattle.cases.specs.Cases.{write_refusal_of, writing_of}
 use Rattle.cases.proofs as cases
 use Rattle.ruling.proofs as ruling
 use Rattle.answer.specs.Answer.{case_tests, case_refusal_of, case_of}
 use Rattle.answer.proofs as answer
 use Rattle.sheet.specs.declared.SheetAnswer.{SheetAnswer}
-use Rattle.sheet.specs.Sheet.{case_at, cases_in, whole_cases, sheet_of}
+use Rattle.sheet.specs.Sheet.{cases_in, whole_cases, sheet_of}
 use Rattle.sheet.proofs as sheet
 use Rattle.text.specs.Text.{letters}
-use Rattle.lines.specs.Lines.{header, refused_line, sheet_line}
-use Rattle.report.specs.Report.{line_of, ruled_text, text_of}
+use Rattle.lines.specs.Lines.{header, sheet_line}
+use Rattle.report.specs.Report.{ruled_text, text_of}
 use Rattle.report.proofs as report
 use Rattle.desk.specs.declared.DeskSheet.{DeskSheet}
 use Rattle.desk.specs.Desk.{desk_sheet}
 use Rattle.desk.proofs as desk
-use Rattle.demands.specs.Ends.{read_numbers, write_numbers, case_numbers, entry_numbers, OneOf, Told, Answered, Ended, SheetAnswered, SheetEnded, Entered}
+use Rattle.demands.specs.Ends.{write_numbers, case_numbers, Answered, SheetAnswered, SheetEnded}
 use Rattle.demands.specs.Why as why
 
 -- No caller tests anything first: whatever they are given, the entry points ask nothing beyond their types (the buffer of `print_sheet` has 65,536
@@ -51,24 +49,6 @@ nothing_asked κ κs s b f = (tt, tt, tt, tt, tt, tt, tt, tt, tt, tt)
 pub rule_asks : (κ : Lfts 1) (s : Bor (List ℕ)) → 88 ≤ length s.now → ruling.rule.Reads.Asked κ (s, tt)
 rule_asks κ s h = h
 
--- ---- a case read
-
--- Any bytes are accepted, or refused with one of 1 to 9.
-pub read_told : (s : List ℕ) → Told read_numbers (refusal_of s)
-unfolding refusal_of
-read_told s = why.told (form_tests s ++ fact_tests (facts_of s))
-
--- So every call of `check_case`, `read_case` and `desk_check_case`.
-module _ (κ : Lfts 1) (s s' : Bor (List ℕ)) where
-  pub check_case_ends : (r : ℕ) → cases.check_case.Reads.Post κ (s, tt) r (s', tt) → Told read_numbers r
-  check_case_ends r p = rw p (read_told s.now)
-
-  pub read_case_ends : (r : Reading) → cases.read_case.Reads.Post κ (s, tt) r (s', tt) → Told read_numbers r.refusal
-  read_case_ends r p = rw (p.0, cases.Laws.read_number s.now) (read_told s.now)
-
-  pub desk_check_case_ends : (r : ℕ) → desk.desk_check_case.Reads.Post κ (s, tt) r (s', tt) → Told read_numbers r
-  desk_check_case_ends r p = rw p (read_told s.now)
-
 -- ---- a case written
 
 -- Any facts are written in the bytes of their form, or refused with 11 or 4 to 9 and nothing is written.
@@ -78,25 +58,12 @@ write_answered f room =
     let size = form_length f.form in
     why.answered size room write_numbers _ (record_bytes f) (why.told ((11, leb size room) ∷ fact_tests f)) (why.write_fits f room) (long_as_form f.form f)
 
--- So every call of `write_case`.
-pub write_case_ends : (κ : Lfts 1) (f f' : Facts) (out out' : MutBor (List ℕ)) (r : ℕ)
-    → cases.write_case.Reads.Post κ (f, (out, tt)) r (f', (out', tt)) → Ended (form_length f.form) write_numbers r out.now out'.now
-write_case_ends κ f f' out out' r p = why.ended (form_length f.form) write_numbers _ r _ _ (write_answered f (length out.now)) (p.0, p.1)
-
 -- ---- a case ruled
 
 -- Any bytes are ruled in 96 bytes, or refused with one of 1 to 9 or 11 and nothing is written.
 pub case_answered : (s : List ℕ) (room : ℕ) → Answered 96 case_numbers room (case_of s room)
 unfolding case_of case_refusal_of
 case_answered s room = why.answered 96 room case_numbers _ _ (why.told (case_tests s room)) (why.case_fits s room) (answer.Cases.answer_length (facts_of s))
-
--- So every call of `rule_case` and `desk_rule_case`.
-module _ (κs : Lfts 2) (s s' : Bor (List ℕ)) (out out' : MutBor (List ℕ)) (r : ℕ) where
-  pub rule_case_ends : answer.rule_case.Reads.Post κs (s, (out, tt)) r (s', (out', tt)) → Ended 96 case_numbers r out.now out'.now
-  rule_case_ends p = why.ended 96 case_numbers _ r _ _ (case_answered s.now (length out.now)) p
-
-  pub desk_rule_case_ends : desk.desk_rule_case.Reads.Post κs (s, (out, tt)) r (s', (out', tt)) → Ended 96 case_numbers r out.now out'.now
-  desk_rule_case_ends p = why.ended 96 case_numbers _ r _ _ (case_answered s.now (length out.now)) p
 
 -- ---- a sheet
 
@@ -117,19 +84,6 @@ module _ (κs : Lfts 2) (s s' : Bor (List ℕ)) (out out' : MutBor (List ℕ)) w
 -- An empty sheet is ruled, whatever the room: nothing is written, and all counts are 0.
 pub empty_sheet : (room : ℕ) → sheet_of [] room ≡ (record { refusal = 0; written = 0; ruled = 0; refused = 0 }, [])
 empty_sheet = why.empty_sheet
-
--- Each case of a sheet gets the 96 bytes of its answer or, where it is bad, one refusal record of 12 bytes, with its index and one of 3 to 9.
-pub entries : (s : List ℕ) (k : ℕ) → k < cases_in s → Entered s k
-entries = why.entered
-
--- Its printed line tells a refused one by its index and one of the same numbers, and so does filling a sheet of a case that it leaves: the
--- quotes have been tested with the sheet.
-pub lines_entered : (s : List ℕ) (k : ℕ) → k < cases_in s
-    → ((reading_of (case_at s k)).refusal ≡ 0) ⊎ (OneOf entry_numbers (reading_of (case_at s k)).refusal × (line_of s k ≡ refused_line k (reading_of (case_at s k)).refusal))
-lines_entered = why.line_entered
-
-pub left_told : (q s : List ℕ) (k : ℕ) → fill_sheet_refusal_of q s ≡ 0 → k < cases_in s → Told entry_numbers (fill_number q s k)
-left_told = why.left_told
 
 -- ---- the printer
 

@@ -22,12 +22,13 @@ use Rattle.fill_report.proofs as fill_report
 use Rattle.desk.proofs as desk
 use Rattle.lookups.specs.Lookups.{Whole}
 use Rattle.lookups.proofs.Again as floor
-use Rattle.demands.specs.Ends.{FillEnded, SheetFilled}
+use Rattle.demands.specs.Ends.{SheetFilled}
 use Rattle.demands.specs.Demand2.{Said}
 use Rattle.demands.specs.Quotes.{ChangesNothing, same_found}
 use Rattle.demands.specs.Why as why
 
--- ---- demand 1: nothing is asked; a case is filled, and every byte outside 20 to 35 is kept, or it gets one of 1 to 9 and 20 to 22 and is as it was
+-- ---- demand 1: nothing is asked (and in proofs/Filled.antt: a case is filled, and every byte outside 20 to 35 is kept, or it gets one of 1 to 9 and 20 to 22 and is as
+-- it was)
 pub nothing_asked : (κs : Lfts 2) (κ : Lfts 3) (q c : Bor (List ℕ)) (s b : MutBor (List ℕ))
     → filling.fill_case.Reads.Asked κs (q, (s, tt))
     × filling.check_fill.Reads.Asked κs (q, (c, tt))
@@ -36,9 +37,6 @@ pub nothing_asked : (κs : Lfts 2) (κ : Lfts 3) (q c : Bor (List ℕ)) (s b : M
     × fill_report.print_filling.Reads.Asked κ (q, (c, (b, tt)))
     × desk.desk_fill_case.Reads.Asked κs (q, (s, tt))
 nothing_asked κs κ q c s b = (tt, tt, tt, tt, tt, tt)
-
-pub fill_ended : (q s : List ℕ) → FillEnded (filling_of q s).0 s (filling_of q s).1
-fill_ended = why.fill_ended
 
 -- ---- a filled case was accepted and is accepted, and its facts are the old ones with what was found
 pub filled_accepted : (q s : List ℕ) → (filling_of q s).0 ≡ 0
@@ -115,13 +113,6 @@ module _ (κs : Lfts 2) (q q' : Bor (List ℕ)) (s s' : MutBor (List ℕ)) (n : 
 
   pub desk_fill_case_says : desk.desk_fill_case.Reads.Post κs (q, (s, tt)) n (q', (s', tt)) → Filled q.now s.now n s'.now
   desk_fill_case_says p = p
-
-  -- demand 1
-  pub fill_case_ends : filling.fill_case.Reads.Post κs (q, (s, tt)) n (q', (s', tt)) → FillEnded n s.now s'.now
-  fill_case_ends p = rw (p.0, p.1) (fill_ended q.now s.now)
-
-  pub desk_fill_case_ends : desk.desk_fill_case.Reads.Post κs (q, (s, tt)) n (q', (s', tt)) → FillEnded n s.now s'.now
-  desk_fill_case_ends p = rw (p.0, p.1) (fill_ended q.now s.now)
 
   -- `fill_case`, and then `read_case` of what it left: accepted, with the old facts and what was found.
   pub fill_case_read : (κ : Lfts 1) (c c' : Bor (List ℕ)) (r : Reading) → filling.fill_case.Reads.Post κs (q, (s, tt)) n (q', (s', tt)) → n ≡ 0

@@ -1,5 +1,5 @@
 pub mod Ends
-mod Why
+pub mod Why
 pub mod Demand1
 pub mod Demand2
 pub mod RoundTrips

@@ -116,10 +116,10 @@ entry_told s k e = simp (eq-eqb (reading_of (case_at s k)).refusal 0 e) (origin_
 
 -- ---- not empty: a buy at 2.249 with an offer of 1.999, and the same with no offer and an official's price of 1.999. Both are accepted, with the TP
 -- 1.999, and repriced to 2.149 for reason 6, with the same notices; only the origin is another.
-abbrev quoted : Facts
+abbrev pub quoted : Facts
 quoted = buy 1999 2249
 
-abbrev official : Facts
+abbrev pub official : Facts
 official =
     record {
       form = quoted.form;
@@ -139,9 +139,6 @@ pub same_but_for_the_origin :
     (origin_of (ruling_of quoted) ≡ 1) × (origin_of (ruling_of official) ≡ 2) × (tp_of (ruling_of quoted) ≡ tp_of (ruling_of official)) × SameNews quoted official
 unfolding in_range band_of in_error moved_by obvious_adjustment_of way_of obvious_open opening_open catastrophic_open theory_of heeded_of in_time may_nullify obvious_act act_of ruled_at ruled_on ruled_by ruling_of
 same_but_for_the_origin = (refl, refl, refl, record { trade = refl; outcome = refl; reason = refl; buyer = refl; seller = refl })
-
-pub same_notices : elements 64 (answer_of quoted) 32 ≡ elements 64 (answer_of official) 32
-same_notices = answers_silent quoted official same_but_for_the_origin.3
 
 -- ---- in the printed line: the eight fields that it had, and the origin last
 

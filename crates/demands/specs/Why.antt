@@ -1,6 +1,6 @@
 -- Why demand 1, the law of reordering and what is said of explanations hold: what a row of tests gives back, and what the definitions make of it. Nothing is promised here.
 use Prim.Native.Nat.{ℕ, zero, suc, ◌+◌, ◌-◌, ◌*◌, ◌≤◌, ◌<◌, zero-le}
-use Rattle.std.specs.Prelude.{◌≡◌, Bool, ◌&&◌, ◌⊎◌, take, drop}
+use Rattle.std.specs.Prelude.{◌≡◌, Bool, take, drop}
 use Rattle.std.proofs.Math.Path.{refl, sym, ap, subst}
 use Rattle.std.proofs.Common.{◌∙◌, length-append, take_at}
 use Rattle.std.proofs.Math.Bool.{true, false}
@@ -15,25 +15,24 @@ use Rattle.wire.specs.Laid.{laid, row}
 use Rattle.wire.specs.Tests.{pick, first_failed}
 use Rattle.wire.proofs.Tests.{either, none_fails}
 use Rattle.wire.proofs.Rows.{row_most, row_same}
-use Rattle.record.specs.Record.{facts_of, record_bytes}
+use Rattle.record.specs.Record.{facts_of}
 use Rattle.forms.specs.Forms.{form_length}
 use Rattle.ruling.specs.Origins.{Exactly}
-use Rattle.refusals.specs.Tests.{length_ok, zeros_ok, lists_ok, form_tests, fact_tests}
+use Rattle.refusals.specs.Tests.{length_ok}
 use Rattle.cases.specs.Words.{Facts}
 use Rattle.cases.specs.declared.Reading.{Reading}
 use Rattle.cases.specs.Cases.{refusal_of, accepted, reading_of, write_refusal_of}
-use Rattle.cases.proofs.Laws.{case_passes, read_number, accepted_at_lem, passed_facts, formed, accepted_form}
+use Rattle.cases.proofs.Laws.{read_number, accepted_at_lem, formed, accepted_form}
 use Rattle.answer.specs.Answer.{case_refusal_of, answer_of, case_of}
 use Rattle.answer.proofs.Cases.{answer_length}
 use Rattle.sheet.specs.declared.SheetAnswer.{SheetAnswer}
 use Rattle.cut.specs.Cut.{cut_by, cut}
-use Rattle.cut.proofs.Laws.{case_is}
-use Rattle.sheet.specs.Sheet.{whole, case_at, cases_in, refusal_bytes, entry_bytes, ruled_in, whole_cases, sheet_refusal_of, refused_whole, ruled_whole, sheet_of}
+use Rattle.sheet.specs.Sheet.{whole, case_at, cases_in, ruled_in, whole_cases, sheet_refusal_of, refused_whole, ruled_whole, sheet_of}
 use Rattle.sheet.proofs.Turns.{whole_cut, whole_few}
 use Rattle.text.specs.Text.{letters, spelt, decimal_of}
-use Rattle.lines.specs.Lines.{header, refused_line, end_line, sheet_line}
+use Rattle.lines.specs.Lines.{header, end_line, sheet_line}
 use Rattle.lines.proofs.Lengths.{header_most, end_most, sheet_most}
-use Rattle.report.specs.Report.{case_line, line_of, ruled_text, text_of}
+use Rattle.report.specs.Report.{line_of, ruled_text, text_of}
 use Rattle.report.proofs.Lines.{line_most}
 use Rattle.report.specs.Pieces.{piece_of, pieces_in}
 use Rattle.report.proofs.Pieces.{piece_whole, enough_pieces}
@@ -62,7 +61,6 @@ use Rattle.explanation.specs.declared.Wanted.{Wanted}
 use Rattle.explanation.specs.Explained.{told_rows, explained_rows, explained_of}
 use Rattle.explanation.specs.Pieces.{desk_alone, case_piece, explained_piece, explanation_of}
 use Rattle.explanation.proofs.Told.{told_ruled, whole_piece, refused_piece_lem, pieces_whole}
-use Rattle.round_trips.proofs.Again.{sound}
 use Rattle.facts.specs.declared.Mills.{Mills}
 use Rattle.facts.specs.declared.Price.TheVariants.{At}
 use Rattle.halves.specs.declared.Half.{Half}
@@ -70,17 +68,14 @@ use Rattle.quotes.specs.declared.Posted.{Posted}
 use Rattle.best.specs.Lasts.{last_of}
 use Rattle.best.specs.Best.{said_by, best_of}
 use Rattle.best.specs.Found.{best_in}
-use Rattle.quotes.specs.Quotes.{whole_quotes, quotes_refusal_of, list_tests}
+use Rattle.quotes.specs.Quotes.{whole_quotes, list_tests}
 use Rattle.filling.specs.Filling.{quoted, found_for, fill_refusal_of, filling_of}
-use Rattle.best.proofs.Own.{found_number}
 use Rattle.lookups.specs.Lookups.{NoBetter}
 use Rattle.lookups.proofs.Better.{no_better_said, is_one}
-use Rattle.filling.proofs.Answers.{number_told}
-use Rattle.lookups.proofs.Again.{filled_twice, refused_kept, case_good, fill_bytes, fill_facts}
-use Rattle.lookups.proofs.Filled.{filled_length, filled_outside}
-use Rattle.fillings.specs.Fillings.{fill_number, fill_sheet_refusal_of, filled_case, fill_sheet_of}
+use Rattle.lookups.proofs.Again.{filled_twice, case_good, fill_facts}
+use Rattle.fillings.specs.Fillings.{fill_sheet_refusal_of, filled_case, fill_sheet_of}
 use Rattle.fillings.proofs.Laws.{refuses, whole_first, filled_whole, sheet_as_long, whole_filled, many_filled, case_filled}
-use Rattle.demands.specs.Ends.{fill_sheet_numbers, SheetFilled, read_numbers, entry_numbers, fill_numbers, OneOf, Told, Answered, Ended, FillEnded, SheetAnswered, SheetEnded, Entered}
+use Rattle.demands.specs.Ends.{fill_sheet_numbers, SheetFilled, OneOf, Told, Answered, SheetAnswered, SheetEnded}
 
 -- ---- a row of tests gives 0 or one of its numbers
 abbrev numbers_of : List (ℕ × Bool) → List ℕ
@@ -95,7 +90,7 @@ told ((n, true) ∷ tests) = later (told tests) where
   later (inr o) = inr (inr o)
 told ((n, false) ∷ tests) = inr (inl refl)
 
-other : (numbers : List ℕ) (n : ℕ) → Told numbers n → eqb n 0 ≡ false → OneOf numbers n
+pub other : (numbers : List ℕ) (n : ℕ) → Told numbers n → eqb n 0 ≡ false → OneOf numbers n
 other numbers n (inl e) h = absurd (eqb-false n 0 h e)
 other numbers n (inr o) h = o
 
@@ -104,13 +99,6 @@ pub answered : (size room : ℕ) (numbers : List ℕ) (n : ℕ) (w : List ℕ) �
     → Answered size numbers room (pick {A = ℕ × List ℕ} (eqb n 0) (0, w) (n, []))
 answered size room numbers n w t fits long =
     either (Answered size numbers room) (eqb n 0) (0, w) (n, []) (λ h. inl (refl, fits (eqb-true n 0 h), long)) (λ h. inr (other numbers n t h, refl))
-
--- and written into the buffer
-pub ended : (size : ℕ) (numbers : List ℕ) (a : ℕ × List ℕ) (n : ℕ) (l m : List ℕ) → Answered size numbers (length l) a
-    → (n ≡ a.0) × (m ≡ laid a.1 l) → Ended size numbers n l m
-unfolding laid
-ended size numbers a n l m (inl e) p = inl (p.0 ∙ e.0, e.1, (a.1, e.2, p.1))
-ended size numbers a n l m (inr e) p = inr (rw p.0 e.0, p.1 ∙ ap (λ (w : List ℕ). laid w l) e.1)
 
 -- a case that is ruled had room, and so had facts that are written
 pub case_fits : (s : List ℕ) (room : ℕ) → case_refusal_of s room ≡ 0 → 96 ≤ room
@@ -229,37 +217,6 @@ none_written s room =
     either (λ (a : SheetAnswer × List ℕ). (a.0.refusal ≡ 0 → ⊥) → a.1 ≡ []) (eqb (sheet_refusal_of s room) 0) (ruled_whole s (cases_in s)) (refused_whole (sheet_refusal_of s room))
     (λ h d. absurd (d refl)) (λ h d. refl)
 
--- ---- a case of a sheet, which passes the tests 1 and 2, by the number that reading it gives
-module _ (s : List ℕ) (k : ℕ) (within : k < cases_in s) where
-  abbrev c : List ℕ
-  c = case_at s k
-
-  abbrev n : ℕ
-  n = (reading_of c).refusal
-
-  entry_told : Told entry_numbers n
-  unfolding refusal_of
-  entry_told = let is = case_passes c (case_is s k within) in rw (read_number c) (simp (is.0, is.1) (told ((3, zeros_ok c && lists_ok c) ∷ fact_tests (facts_of c))))
-
-  abbrev As : List ℕ → Type 0
-  As w = ((n ≡ 0) × (w ≡ answer_of (reading_of c).facts) × (length w ≡ 96)) ⊎ (OneOf entry_numbers n × (w ≡ refusal_bytes k n) × (length w ≡ 12))
-
-  pub entered : Entered s k
-  unfolding entry_bytes refusal_bytes
-  entered = either As (eqb n 0) _ _ (λ h. inl (eqb-true n 0 h, refl, answer_length (reading_of c).facts)) (λ h. inr (other entry_numbers n entry_told h, refl, refl))
-
--- its printed line likewise: a refused one tells one of the same numbers
-module _ (s : List ℕ) (k : ℕ) (within : k < cases_in s) where
-  abbrev r : ℕ
-  r = (reading_of (case_at s k)).refusal
-
-  abbrev Line : List ℕ → Type 0
-  Line w = (r ≡ 0) ⊎ (OneOf entry_numbers r × (w ≡ refused_line k r))
-
-  pub line_entered : Line (line_of s k)
-  unfolding case_line
-  line_entered = either Line (eqb r 0) _ _ (λ h. inl (eqb-true r 0 h)) (λ h. inr (other entry_numbers r (entry_told s k within) h, refl))
-
 -- ---- the printer's text: 600 lines of 96 bytes at most, the header and END
 module _ (s : List ℕ) where
   pub text_answered : (whole_cases s ≡ true → text_of s ≡ ruled_text s (cases_in s)) × (whole_cases s ≡ false → text_of s ≡ sheet_line 10)
@@ -285,50 +242,7 @@ unfolding text_of whole_cases whole cut cut_by header end_line row ruled_in deci
 empty_report = refl
 
 -- ---- a case filled
-told_more : (ms ns : List ℕ) (n : ℕ) → Told ms n → Told (ms ++ ns) n
-told_more ms ns n (inl e) = inl e
-told_more [] ns n (inr o) = absurd o
-told_more (m ∷ ms) ns n (inr (inl e)) = inr (inl e)
-told_more (m ∷ ms) ns n (inr (inr o)) = after (told_more ms ns n (inr o)) where
-  after : Told (ms ++ ns) n → Told (m ∷ (ms ++ ns)) n
-  after (inl e) = inl e
-  after (inr o) = inr (inr o)
-
-told_after : (ms ns : List ℕ) (n : ℕ) → Told ns n → Told (ms ++ ns) n
-told_after [] ns n t = t
-told_after (m ∷ ms) ns n t = after (told_after ms ns n t) where
-  after : Told (ms ++ ns) n → Told (m ∷ (ms ++ ns)) n
-  after (inl e) = inl e
-  after (inr o) = inr (inr o)
-
--- the quotes' number at a time of day
-list_told : (q : List ℕ) (t : ℕ) → leb t 86399 ≡ true → Told (20 ∷ 21 ∷ 22 ∷ []) (quotes_refusal_of q t)
-unfolding quotes_refusal_of
-list_told q t h = simp h (told ((20, whole_quotes q) ∷ list_tests q))
-
 module _ (q s : List ℕ) where
-  fill_told : Told fill_numbers (fill_refusal_of q s)
-  unfolding fill_refusal_of refusal_of
-  fill_told =
-      either (Told fill_numbers) (eqb (refusal_of s) 0) (found_for q s).refusal (refusal_of s)
-      (λ e. rw (found_number q (facts_of s).trade.executed.0)
-      (told_after read_numbers (20 ∷ 21 ∷ 22 ∷ []) _ (list_told q (facts_of s).trade.executed.0 (sound (facts_of s) (passed_facts s (eqb-true (refusal_of s) 0 e))).executed)))
-      (λ e. told_more read_numbers (20 ∷ 21 ∷ 22 ∷ []) (refusal_of s) (told (form_tests s ++ fact_tests (facts_of s))))
-
-  pub fill_ended : FillEnded (filling_of q s).0 s (filling_of q s).1
-  fill_ended = by_test (eqb (filling_of q s).0 0) refl where
-    by_test : (b : Bool) → eqb (filling_of q s).0 0 ≡ b → FillEnded (filling_of q s).0 s (filling_of q s).1
-    by_test true h =
-        let done = eqb-true (filling_of q s).0 0 h in
-        inl (
-          done,
-          rw (fill_bytes q s done) (filled_length s (found_for q s).bid (found_for q s).offer),
-          rw (fill_bytes q s done) (filled_outside s (found_for q s).bid (found_for q s).offer),
-        )
-    by_test false h =
-        inr
-        (other fill_numbers (filling_of q s).0 (rw (number_told q s) fill_told) h, refused_kept q s (eqb-false (filling_of q s).0 0 h))
-
   pub filled_accepted : (filling_of q s).0 ≡ 0
       → ((reading_of s).refusal ≡ 0) × (reading_of (filling_of q s).1 ≡ accepted (quoted (reading_of s).facts (found_for q s).bid (found_for q s).offer))
   filled_accepted done =
@@ -360,19 +274,6 @@ module _ (q s : List ℕ) where
     by_test false h =
         let some = eqb-false (fill_sheet_refusal_of q s) 0 h in
         inr (rw sheet_number (other fill_sheet_numbers (fill_sheet_refusal_of q s) sheet_refusal_told h), sym (refuses q s (fill_sheet_refusal_of q s) refl some).1)
-
--- a case of it that is left has one of the numbers of an entry: the quotes were tested with the sheet
-pub left_told : (q s : List ℕ) (k : ℕ) → fill_sheet_refusal_of q s ≡ 0 → k < cases_in s → Told entry_numbers (fill_number q s k)
-unfolding fill_sheet_refusal_of fill_refusal_of quotes_refusal_of
-left_told q s k good within =
-    let c = case_at s k in
-    let quotes = (none_fails (whole_cases s) 10 _ tt good).1 in
-    rw (number_told q c)
-    (either (Told entry_numbers) (eqb (refusal_of c) 0) (found_for q c).refusal (refusal_of c)
-    (λ e.
-    let time = (sound (facts_of c) (passed_facts c (eqb-true (refusal_of c) 0 e))).executed in
-    inl (found_number q (facts_of c).trade.executed.0 ∙ simp time quotes))
-    (λ e. rw (read_number c) at (entry_told s k within)))
 
 -- ---- filled twice, a sheet too
 whole_twice : (q s : List ℕ) → fill_sheet_refusal_of q s ≡ 0 → fill_sheet_of q (fill_sheet_of q s).1 ≡ fill_sheet_of q s
