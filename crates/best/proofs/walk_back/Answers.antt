@@ -1,9 +1,10 @@
 use native.Mathlib.Omega.{arith}
 use Rattle.best.proofs.Turns.{first, next, ended, stopped}
 use Rattle.quotes.proofs.Accepted.{exchange_at}
+use mathlib.Core.Path.{◌≡◌}
+use mathlib.Core.Logic.{◌⊎◌, ⊎_elim}
 use Prim.Native.Nat.{◌≤◌, ◌-◌}
 use Rattle.best.proofs.walk_back.Goals as goal
-use Rattle.best.proofs.walk_back.Goals.{then-loop-i-test+else-w-lt16, else-loop-i-test}
 
 pub loop-i-init : goal.loop-i-init
 loop-i-init c = first _ _
@@ -19,7 +20,7 @@ pub meet-w-requires : goal.meet-w-requires
 meet-w-requires c =
     let e : (1 ≤ c.posted_at-q.result.exchange) × (c.posted_at-q.result.exchange ≤ 16) =
     rw c.posted_at-q.ensures (exchange_at _ _ (c.loop-i.i - 1) c.requires.1 (omega arith)) in
-    (omega arith, c.if-w-lt16.true)
+    (omega arith, omega arith)
 
 pub loop-i-preserved : goal.loop-i-preserved
 loop-i-preserved c =
@@ -29,8 +30,7 @@ loop-i-preserved c =
 
 pub returns : goal.returns
 returns c =
-    elim c.loop-i-test.branch [
-      | then-loop-i-test+else-w-lt16 w ↦ let all : 16 ≤ c.loop-i.w.known = omega arith in
-          stopped _ _ _ _ c.loop-i.invariant c.requires.0 (omega (arith, c.loop-i.invariant.most))
-      | else-loop-i-test w ↦ ended _ _ _ _ c.loop-i.invariant c.requires.0 (omega arith)
-    ]
+    let end : (c.loop-i.i ≡ 0) ⊎ (16 ≤ c.loop-i.w.known) = grind arith in
+    ⊎_elim
+    (λ e. ended _ _ _ _ c.loop-i.invariant c.requires.0 e)
+    (λ e. stopped _ _ _ _ c.loop-i.invariant c.requires.0 (omega (arith, c.loop-i.invariant.most))) end
