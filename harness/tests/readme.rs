@@ -3,7 +3,6 @@
 //! that they do not.
 
 use std::fs::{self, File};
-use std::os::unix::fs::symlink;
 use std::path::{Path, PathBuf};
 use std::process::{Command, Output, Stdio};
 
@@ -24,6 +23,20 @@ fn run(command: &mut Command) -> Output {
     output
 }
 
+/// Copies a folder with all in it. No link stands for it: `rt ci` refuses a checkout that has one.
+fn copy(from: &Path, to: &Path) {
+    fs::create_dir_all(to).expect("a folder");
+    for entry in fs::read_dir(from).expect("a folder") {
+        let path = entry.expect("an entry").path();
+        let copied = to.join(path.file_name().expect("a name"));
+        if path.is_dir() {
+            copy(&path, &copied);
+        } else {
+            fs::copy(&path, &copied).expect("a copy");
+        }
+    }
+}
+
 /// Pastes the README's program of that language into `rule.LANGUAGE`, in a folder that has what the
 /// root has, and compiles it by the README's line that starts with `compiler`, with no warning.
 fn compiled(readme: &str, language: &str, fence: &str, compiler: &str) -> PathBuf {
@@ -33,8 +46,8 @@ fn compiled(readme: &str, language: &str, fence: &str, compiler: &str) -> PathBu
     }
     fs::create_dir(&folder).expect("a folder");
     fs::create_dir(folder.join("target")).expect("a folder to compile to");
-    for part in ["include", "harness", "target/staticlib"] {
-        symlink(root().join(part), folder.join(part)).expect("a link");
+    for part in ["include", "harness/src", "target/staticlib"] {
+        copy(&root().join(part), &folder.join(part));
     }
     let program = between(readme, &format!("\n```{fence}\n"), "```\n");
     fs::write(folder.join(format!("rule.{language}")), program).expect("a file");
