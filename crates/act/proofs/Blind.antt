@@ -6,14 +6,14 @@ use mathlib.Core.List.{List}
 use Rattle.wire.specs.Tests.{pick}
 use Rattle.facts.specs.Limits.{violates}
 use Rattle.parties.specs.Parties.{is_customer, is_maker, by_side}
-use Rattle.act.specs.Words.{Mills, Price, At, None, Side, Buy, Sell, Kind, Customer, MarketMaker, Other, Party, Band, Way, Obvious, Opening, Catastrophic}
+use Rattle.act.specs.Words.{Mills, Price, Some, None, Side, Buy, Sell, Kind, Customer, MarketMaker, Other, Party, Band, Way, Obvious, Opening, Catastrophic}
 use Rattle.act.specs.Limits.{opening_tested, opening_stopped, customer_stopped, catastrophic_stopped}
 use Rattle.act.specs.Act.{opening_act, catastrophic_act, catastrophic_price, act_of}
 use Rattle.act.specs.Tested.{same_side, tested_at, altered, Alike}
 
 -- ---- the one limit of the opening way, on side s: it is the altered party's or it is not
 opening_same : (s who : Side) (buyer seller limit : Price) (tp : Mills)
-    → Alike who (pick (same_side who s) (At tp) None) (by_side who buyer seller) limit
+    → Alike who (pick (same_side who s) (Some tp) None) (by_side who buyer seller) limit
     → violates s (by_side s (pick (same_side who Buy) limit buyer) (pick (same_side who Sell) limit seller)) tp ≡ violates s (by_side s buyer seller) tp
 opening_same Buy Buy buyer seller limit tp h = sym h
 opening_same Buy Sell buyer seller limit tp h = refl
@@ -22,14 +22,14 @@ opening_same Sell Sell buyer seller limit tp h = sym h
 
 -- ---- a limit of the catastrophic way: it counts where the party is a Customer
 customer_same : (who : Side) (kind : Kind) (code code' : List ℕ) (old new : Price) (price : Mills)
-    → Alike who (pick (is_customer kind) (At price) None) old new
+    → Alike who (pick (is_customer kind) (Some price) None) old new
     → customer_stopped who (record { code = code'; limit = new; kind = kind }) price ≡ customer_stopped who (record { code = code; limit = old; kind = kind }) price
 customer_same who Customer code code' old new price h = sym h
 customer_same who MarketMaker code code' old new price h = refl
 customer_same who Other code code' old new price h = refl
 
 catastrophic_same : (who : Side) (buyer seller : Party) (code : List ℕ) (limit : Price) (price : Mills)
-    → Alike who (pick (is_customer (by_side who buyer.kind seller.kind)) (At price) None) (by_side who buyer.limit seller.limit) limit
+    → Alike who (pick (is_customer (by_side who buyer.kind seller.kind)) (Some price) None) (by_side who buyer.limit seller.limit) limit
     → catastrophic_stopped (altered who code limit Buy buyer) (altered who code limit Sell seller) price ≡ catastrophic_stopped buyer seller price
 unfolding catastrophic_stopped
 catastrophic_same Buy buyer seller code limit price h =

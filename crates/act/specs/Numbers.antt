@@ -2,7 +2,7 @@
 use Rattle.std.specs.Prelude.{ℕ, Bool, false, eqb}
 use Rattle.wire.specs.Tests.{pick, in_range}
 use Rattle.facts.specs.Numbers.{price_number}
-use Rattle.act.specs.Words.{Mills, Price, At, None, Side, Band, Act, Adjust, Nullify, Leave}
+use Rattle.act.specs.Words.{Mills, Price, Some, None, Side, Band, Act, Adjust, Nullify, Leave}
 use Rattle.act.specs.Act.{obvious_price, catastrophic_price}
 
 -- the outcome: 0 no relief, 1 adjusted, 2 nullified
@@ -18,7 +18,7 @@ act_reason (Leave reason) = reason
 
 -- the new price: none unless adjusted
 abbrev pub act_price : Act → Price
-act_price (Adjust c) = At c.price
+act_price (Adjust c) = Some c.price
 act_price (Nullify reason) = None
 act_price (Leave reason) = None
 
@@ -37,5 +37,5 @@ price_for reason side tp band =
 
 -- what is said of a price, where there is one
 abbrev pub IfPriced : (Mills → Type 0) → Price → Type 0
-IfPriced P (At p) = P p
+IfPriced P (Some p) = P p
 IfPriced P None = Unit {0}

@@ -4,7 +4,7 @@ use Rattle.std.specs.Prelude.{ℕ, ◌≡◌, Bool, true, false, List}
 use Rattle.wire.specs.Tests.{pick}
 use Rattle.facts.specs.Limits.{violates}
 use Rattle.parties.specs.Parties.{is_customer, by_side}
-use Rattle.act.specs.Words.{Mills, Price, At, None, Side, Buy, Sell, Kind, Party, Band, Way, Obvious, Opening, Catastrophic}
+use Rattle.act.specs.Words.{Mills, Price, Some, None, Side, Buy, Sell, Kind, Party, Band, Way, Obvious, Opening, Catastrophic}
 use Rattle.act.specs.Limits.{opening_tested}
 use Rattle.act.specs.Act.{catastrophic_price}
 use Rattle.act.specs.Numbers.{IfPriced}
@@ -20,8 +20,8 @@ same_side Sell Sell = true
 -- minus the adjustment, for each Customer; on the obvious way none. It is found without a limit or a code.
 unfoldable pub tested_at : Way → Side → Kind → Kind → Mills → Band → Side → Price
 tested_at Obvious side buyer seller tp band who = None
-tested_at Opening side buyer seller tp band who = pick (same_side who (opening_tested side buyer seller)) (At tp) None
-tested_at Catastrophic side buyer seller tp band who = pick (is_customer (by_side who buyer seller)) (At (catastrophic_price side tp band)) None
+tested_at Opening side buyer seller tp band who = pick (same_side who (opening_tested side buyer seller)) (Some tp) None
+tested_at Catastrophic side buyer seller tp band who = pick (is_customer (by_side who buyer seller)) (Some (catastrophic_price side tp band)) None
 
 -- The party p on side `here`, with this code and limit if `who` is that side, and as it was if not.
 abbrev pub altered : Side → List ℕ → Price → Side → Party → Party

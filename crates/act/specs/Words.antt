@@ -1,7 +1,7 @@
 -- The declared types and their cases, passed on under their own names: those of the floors below that stand here, then our own.
+pub use Rattle.std.specs.Prelude.{Some, None}
 pub use Rattle.facts.specs.declared.Mills.{Mills}
-pub use Rattle.facts.specs.declared.Price.{Price}
-pub use Rattle.facts.specs.declared.Price.TheVariants.{At, None}
+pub use Rattle.facts.specs.Words.{Price}
 pub use Rattle.facts.specs.declared.Side.{Side}
 pub use Rattle.facts.specs.declared.Side.TheVariants.{Buy, Sell}
 pub use Rattle.facts.specs.declared.Kind.{Kind}

@@ -13,7 +13,7 @@ ghost use Rattle.act.specs.Act.{obvious_act, opening_act, catastrophic_act, act_
 ghost use Rattle.act.specs.Numbers.{act_outcome, act_reason, act_price, fits, price_for};
 
 use bands::Band;
-use facts::{Kind, Mills, Party, Price, Side};
+use facts::{Kind, Mills, Party, Side};
 use way::Way;
 
 // A new price and the reason for it.
@@ -55,7 +55,7 @@ fn other_side(side: Side) -> Side
     }
 }
 
-fn limit_on(side: Side, buyer: Price, seller: Price) -> Price
+fn limit_on(side: Side, buyer: Option<Mills>, seller: Option<Mills>) -> Option<Mills>
     ensures { result ≡ by_side side buyer seller }
 {
     match side {

@@ -4,7 +4,7 @@ use mathlib.Core.Bool.{Bool, true, false}
 use mathlib.Core.Logic.{◌⊎◌, inl, inr}
 use Rattle.wire.specs.Tests.{pick}
 use Rattle.codes.specs.Codes.{agreement_number}
-use Rattle.agreement.specs.Words.{Price, At, None, Agreement, NotMade, OnPrice, ToNullify, Settlement, Way, Heeded, Ignored}
+use Rattle.agreement.specs.Words.{Price, Some, None, Agreement, NotMade, OnPrice, ToNullify, Settlement, Way, Heeded, Ignored}
 use Rattle.agreement.specs.Agreed.{in_time, may_nullify, terms_of, heeded_of, heeded_number}
 
 -- nothing counts, or this agreement does
@@ -14,7 +14,7 @@ Counts a h = (heeded_number h ≡ 0) ⊎ (heeded_number h ≡ agreement_number a
 terms_count : (ok : Bool) (a : Agreement) (p : Price) (nullify : Bool) → Counts a (pick ok (terms_of a p nullify) Ignored)
 terms_count false a p nullify = inl refl
 terms_count true NotMade p nullify = inl refl
-terms_count true OnPrice (At m) nullify = inr refl
+terms_count true OnPrice (Some m) nullify = inr refl
 terms_count true OnPrice None nullify = inl refl
 terms_count true ToNullify p true = inr refl
 terms_count true ToNullify p false = inl refl

@@ -4,7 +4,7 @@ use Rattle.std.specs.Prelude.{ℕ, Bool, true, false, not, ◌||◌}
 use Rattle.wire.specs.Tests.{pick}
 use Rattle.facts.specs.Numbers.{seconds}
 use Rattle.way.specs.Times.{no_later}
-use Rattle.agreement.specs.Words.{Seconds, Price, At, None, Moment, After, Never, Agreement, NotMade, OnPrice, ToNullify, Settlement, Way, Obvious, Opening, Catastrophic, Heeded, Ignored, Repriced, Undone}
+use Rattle.agreement.specs.Words.{Seconds, Price, Some, None, Moment, Agreement, NotMade, OnPrice, ToNullify, Settlement, Way, Obvious, Opening, Catastrophic, Heeded, Ignored, Repriced, Undone}
 
 -- Where some party is a Customer an agreement is in time up to 1,800 s after notice, where none is up to 600 s (RULE R7.1).
 abbrev pub agreement_time : Bool → Seconds
@@ -26,7 +26,7 @@ may_nullify way customer = not customer || is_opening way
 -- is not there can't have been agreed on (refusal 9).
 abbrev pub terms_of : Agreement → Price → Bool → Heeded
 terms_of NotMade agreed nullify = Ignored
-terms_of OnPrice (At p) nullify = Repriced p
+terms_of OnPrice (Some p) nullify = Repriced p
 terms_of OnPrice None nullify = Ignored
 terms_of ToNullify agreed true = Undone
 terms_of ToNullify agreed false = Ignored
@@ -46,5 +46,5 @@ abbrev pub acceptance_time : Seconds
 acceptance_time = seconds 1800
 
 abbrev pub accepted_in_time : Moment → Bool
-accepted_in_time (After t) = no_later t acceptance_time
-accepted_in_time Never = false
+accepted_in_time (Some t) = no_later t acceptance_time
+accepted_in_time None = false

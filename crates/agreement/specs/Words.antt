@@ -1,9 +1,8 @@
 -- The declared types and their cases, passed on under their own names: those of the facts and of the way that stand here, then our own.
+pub use Rattle.std.specs.Prelude.{Some, None}
 pub use Rattle.facts.specs.declared.Seconds.{Seconds}
-pub use Rattle.facts.specs.declared.Price.{Price}
-pub use Rattle.facts.specs.declared.Price.TheVariants.{At, None}
-pub use Rattle.facts.specs.declared.Moment.{Moment}
-pub use Rattle.facts.specs.declared.Moment.TheVariants.{After, Never}
+pub use Rattle.facts.specs.Words.{Price}
+pub use Rattle.facts.specs.Words.{Moment}
 pub use Rattle.facts.specs.declared.Agreement.{Agreement}
 pub use Rattle.facts.specs.declared.Agreement.TheVariants.{NotMade, OnPrice, ToNullify}
 pub use Rattle.facts.specs.declared.Settlement.{Settlement}

@@ -7,7 +7,7 @@ ghost use Rattle.std.specs.Prelude.{◌≡◌, ◌⊎◌};
 ghost use Rattle.codes.specs.Codes.{agreement_number};
 ghost use Rattle.agreement.specs.Agreed.{agreement_time, in_time, is_opening, may_nullify, terms_of, heeded_of, heeded_number, accepted_in_time};
 
-use facts::{Agreement, Mills, Moment, Price, Seconds, Settlement};
+use facts::{Agreement, Mills, Seconds, Settlement};
 use way::Way;
 
 // What a ruling makes of an agreement.
@@ -53,14 +53,14 @@ pub fn may_nullify(way: Way, customer: bool) -> bool
 }
 
 // What was agreed, where it was agreed in time.
-fn terms(agreement: Agreement, agreed: Price, nullify: bool) -> Heeded
+fn terms(agreement: Agreement, agreed: Option<Mills>, nullify: bool) -> Heeded
     ensures { result ≡ terms_of agreement agreed nullify }
 {
     match agreement {
         Agreement::NotMade => Heeded::Ignored,
         Agreement::OnPrice => match agreed {
-            Price::At(m) => Heeded::Repriced(m),
-            Price::None => Heeded::Ignored,
+            Some(m) => Heeded::Repriced(m),
+            None => Heeded::Ignored,
         },
         Agreement::ToNullify => {
             if nullify {
@@ -85,11 +85,11 @@ pub fn heed(settlement: Settlement, way: Way, customer: bool) -> Heeded
 }
 
 // Whether a Customer accepted in time; where it never did, no.
-pub fn accepted_in_time(accepted: Moment) -> bool
+pub fn accepted_in_time(accepted: Option<Seconds>) -> bool
     ensures { result ≡ accepted_in_time accepted }
 {
     match accepted {
-        Moment::After(t) => way::no_later(t, Seconds(1800)),
-        Moment::Never => false,
+        Some(t) => way::no_later(t, Seconds(1800)),
+        None => false,
     }
 }

@@ -12,7 +12,7 @@ use Rattle.agreement.specs.Agreed.{heeded_of, accepted_in_time}
 use Rattle.act.specs.Minimum.{minimum_of}
 use Rattle.act.specs.Limits.{catastrophic_stopped}
 use Rattle.act.specs.Act.{catastrophic_price, catastrophic_act, act_of}
-use Rattle.alike.specs.Words.{Mills, Moment, Facts, Trade, Way, Obvious, Opening, Catastrophic, Open, By, Closed, Source, Theory, Found, Missing, Heeded, Ignored, Repriced, Undone, Ruling}
+use Rattle.alike.specs.Words.{Mills, Moment, Facts, Trade, Way, Obvious, Opening, Catastrophic, Open, Some, None, Source, Theory, Heeded, Ignored, Repriced, Undone, Ruling}
 use Rattle.ruling.specs.Ruling.{no_relief, carried_out, settled, ruled_at, ruled_from, ruled_on, ruled_by, ruled_if, ruling_of}
 use Rattle.alike.specs.Accepted.{accepted_at, NotAsked}
 use Rattle.ruling.proofs.Walk.{heeded_at}
@@ -51,10 +51,10 @@ module _ (f : Facts) (m : Moment) where
 
   same_from : (way : Way) (t : Theory) → NotAsked (ruled_from f way t) → ruled_from g way t ≡ ruled_from f way t
   unfolding ruled_at heeded_of
-  same_from way (Found s) k =
-      where-true (settled g way s (heeded_at f way)) (settled f way s (heeded_at f way)) (no_relief f.trade 1 (Found s)) (same_settled way s (heeded_at f way))
+  same_from way (Some s) k =
+      where-true (settled g way s (heeded_at f way)) (settled f way s (heeded_at f way)) (no_relief f.trade 1 (Some s)) (same_settled way s (heeded_at f way))
       (in_error f.request.side f.trade.price s.price (minimum_of way (band_of s.price))) k
-  same_from way Missing k = refl
+  same_from way None k = refl
 
   same_on : (way : Way) → NotAsked (ruled_on f way) → ruled_on g way ≡ ruled_on f way
   unfolding ruled_on
@@ -67,8 +67,8 @@ module _ (f : Facts) (m : Moment) where
   same_by Catastrophic k = where-false (ruled_on g Catastrophic) (ruled_on f Catastrophic) _ (same_on Catastrophic) f.request.decided k
 
   same_if : (o : Open) → NotAsked (ruled_if f o) → ruled_if g o ≡ ruled_if f o
-  same_if (By way) k = same_by way k
-  same_if Closed k = refl
+  same_if (Some way) k = same_by way k
+  same_if None k = refl
 
   pub acceptance_ignored : NotAsked (ruling_of f) → ruling_of g ≡ ruling_of f
   unfolding ruling_of

@@ -13,7 +13,7 @@ use Rattle.agreement.specs.Agreed.{accepted_in_time}
 use Rattle.act.specs.Minimum.{minimum_of}
 use Rattle.act.specs.Tested.{Alike}
 use Rattle.act.proofs.Blind.{act_blind}
-use Rattle.alike.specs.Words.{Price, None, Side, Facts, Way, Obvious, Opening, Catastrophic, Open, By, Closed, Source, Theory, Found, Missing, Heeded, Ignored, Repriced, Undone, Ruling}
+use Rattle.alike.specs.Words.{Price, None, Side, Facts, Way, Obvious, Opening, Catastrophic, Open, Some, Source, Theory, Heeded, Ignored, Repriced, Undone, Ruling}
 use Rattle.ruling.specs.Ruling.{no_relief, carried_out, settled, ruled_at, ruled_from, ruled_on, ruled_by, ruled_if, ruling_of}
 use Rattle.alike.specs.Tested.{tested_under, tested_from, tested_on, tested_by, tested_if, tested_in, altered_facts}
 use Rattle.ruling.proofs.Walk.{heeded_at}
@@ -48,11 +48,11 @@ module _ (f : Facts) (who : Side) (code : List ℕ) (limit : Price) where
 
   same_from : (way : Way) (t : Theory) → Same (tested_from f way who t) → ruled_from g way t ≡ ruled_from f way t
   unfolding ruled_at
-  same_from way (Found s) k =
+  same_from way (Some s) k =
       where-true who old limit (tested_under f way s who (heeded_at f way)) (settled g way s (heeded_at f way)) (settled f way s (heeded_at f way))
-      (no_relief f.trade 1 (Found s)) (same_settled way s (heeded_at f way))
+      (no_relief f.trade 1 (Some s)) (same_settled way s (heeded_at f way))
       (in_error f.request.side f.trade.price s.price (minimum_of way (band_of s.price))) k
-  same_from way Missing k = refl
+  same_from way None k = refl
 
   same_on : (way : Way) → Same (tested_on f who way) → ruled_on g way ≡ ruled_on f way
   unfolding ruled_on
@@ -63,12 +63,12 @@ module _ (f : Facts) (who : Side) (code : List ℕ) (limit : Price) where
   same_by Obvious k = same_on Obvious k
   same_by Opening k = same_on Opening k
   same_by Catastrophic k =
-      where-false who old limit (tested_on f who Catastrophic) (ruled_on g Catastrophic) (ruled_on f Catastrophic) (no_relief f.trade 3 Missing)
+      where-false who old limit (tested_on f who Catastrophic) (ruled_on g Catastrophic) (ruled_on f Catastrophic) (no_relief f.trade 3 None)
       (same_on Catastrophic) f.request.decided k
 
   same_if : (o : Open) → Same (tested_if f who o) → ruled_if g o ≡ ruled_if f o
-  same_if (By way) k = same_by way k
-  same_if Closed k = refl
+  same_if (Some way) k = same_by way k
+  same_if None k = refl
 
   -- The party on side `who` may have any other code, and any other limit that the tested price, if there is one, violates or not
   -- just as it did the old one: the ruling is the same.

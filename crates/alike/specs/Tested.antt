@@ -10,7 +10,7 @@ use Rattle.theory.specs.Theory.{theory_of}
 use Rattle.agreement.specs.Agreed.{heeded_of}
 use Rattle.act.specs.Minimum.{minimum_of}
 use Rattle.act.specs.Tested.{tested_at, altered}
-use Rattle.alike.specs.Words.{Price, None, Side, Buy, Sell, Facts, Way, Obvious, Opening, Catastrophic, Open, By, Closed, Source, Theory, Found, Missing, Heeded, Ignored, Repriced, Undone}
+use Rattle.alike.specs.Words.{Price, None, Side, Buy, Sell, Facts, Way, Obvious, Opening, Catastrophic, Open, Some, Source, Theory, Heeded, Ignored, Repriced, Undone}
 
 -- the act is not reached where an agreement counts
 abbrev pub tested_under : Facts → Way → Source → Side → Heeded → Price
@@ -20,11 +20,11 @@ tested_under f way s who Ignored = tested_at way f.request.side f.buyer.kind f.s
 
 -- nor where the trade is not in error, nor where there is no TP
 abbrev pub tested_from : Facts → Way → Side → Theory → Price
-tested_from f way who (Found s) =
+tested_from f way who (Some s) =
     pick (in_error f.request.side f.trade.price s.price (minimum_of way (band_of s.price)))
     (tested_under f way s who (heeded_of f.settlement way (any_customer f.buyer.kind f.seller.kind)))
     None
-tested_from f way who Missing = None
+tested_from f way who None = None
 
 abbrev pub tested_on : Facts → Side → Way → Price
 tested_on f who way = tested_from f way who (theory_of f.form f.request.side f.market)
@@ -36,8 +36,8 @@ tested_by f who Opening = tested_on f who Opening
 tested_by f who Catastrophic = pick f.request.decided None (tested_on f who Catastrophic)
 
 abbrev pub tested_if : Facts → Side → Open → Price
-tested_if f who (By way) = tested_by f who way
-tested_if f who Closed = None
+tested_if f who (Some way) = tested_by f who way
+tested_if f who None = None
 
 -- The price that the limit of the party on side `who` is tested against in the ruling on these facts; none where it is not tested.
 -- No limit and no code is read to find it.

@@ -7,7 +7,7 @@ use lib.ListN.{length, get_or, drop, length-map, get_or-map, drop_of_length-le}
 use lib.Seq.{drop-cons}
 use Rattle.quotes.specs.Quotes.{posted_at}
 use Rattle.halves.specs.Halves.{half_of, better, size_if}
-use Rattle.best.specs.Words.{Price, Quote, Posted, Half, Silent, Sent}
+use Rattle.best.specs.Words.{Price, Quote, Posted, Half, None, Some}
 use Rattle.best.specs.Best.{nobody, said_by, best_price, size_at}
 use Rattle.best.specs.Places.{placed_at, placed, said}
 
@@ -16,7 +16,7 @@ module _ (h : Half) (s places : List ℕ) where
   said_length = length-map (placed s places) (said_by h) ∙ length-map places (placed_at s)
 
   said_get : (i : ℕ) → get_or (said h s places) i nobody ≡ said_by h (placed_at s (get_or places i 0))
-  said_get i = get_or-map (said_by h) (placed s places) i Silent ∙ ap (said_by h) (get_or-map (placed_at s) places i 0)
+  said_get i = get_or-map (said_by h) (placed s places) i None ∙ ap (said_by h) (get_or-map (placed_at s) places i 0)
 
   none_said : (i : ℕ) → length places ≤ i → drop i (said h s places) ≡ []
   none_said i l = drop_of_length-le (said h s places) {i = i} (rw said_length l)
@@ -28,7 +28,7 @@ module _ (h : Half) (s places : List ℕ) where
       drop-cons (said h s places) (i - 1) nobody (omega (arith, said_length))
       ∙ rw (e, said_get)
 
-  pub best_start : (i : ℕ) → length places ≤ i → Price.None ≡ best_price h (drop i (said h s places))
+  pub best_start : (i : ℕ) → length places ≤ i → None ≡ best_price h (drop i (said h s places))
   unfolding best_price
   best_start i l = rw (none_said i l)
 
@@ -47,7 +47,7 @@ module _ (h : Half) (s places : List ℕ) where
   size_turn price i sum size x a b ex es ez = rw (one_said i a b, ← ex, ← es, ← ez) (omega arith)
 
 -- the quote at a place that is not 0
-sent_at : (s : List ℕ) (place : ℕ) → (place ≡ 0 → ⊥) → placed_at s place ≡ Sent (posted_at s (place - 1))
+sent_at : (s : List ℕ) (place : ℕ) → (place ≡ 0 → ⊥) → placed_at s place ≡ Some (posted_at s (place - 1))
 sent_at s zero h = absurd (h refl)
 sent_at s (suc k) h = let e : suc k - 1 ≡ k = omega arith in rw e
 

@@ -8,7 +8,7 @@ use native.Mathlib.Omega.{arith}
 use lib.Dec.{ltb, eqb}
 use Rattle.wire.specs.Tests.{pick}
 use Rattle.quotes.specs.Quotes.{posted_at, posted_from}
-use Rattle.best.specs.Words.{Posted, Silent, Sent}
+use Rattle.best.specs.Words.{Posted, None, Some}
 use Rattle.earlier.specs.Earlier.{earlier}
 use Rattle.best.specs.Lasts.{last_of}
 
@@ -16,13 +16,13 @@ use Rattle.best.specs.Lasts.{last_of}
 abbrev Ours : ℕ → ℕ → Posted → Bool
 Ours t e q = ltb q.time.0 t && eqb q.exchange e
 
-alone : (c d : Bool) (e : ℕ) (q : Posted) → eqb q.exchange e ≡ d → last_of e (pick c (q ∷ []) []) ≡ pick (c && d) (Sent q) Silent
+alone : (c d : Bool) (e : ℕ) (q : Posted) → eqb q.exchange e ≡ d → last_of e (pick c (q ∷ []) []) ≡ pick (c && d) (Some q) None
 unfolding last_of
 alone true d e q h = rw h
 alone false d e q h = refl
 
-in_front : (c b : Bool) (e : ℕ) (q x : Posted) (ps qs : List Posted) → last_of e ps ≡ pick b (Sent x) (last_of e qs)
-    → last_of e (pick c (q ∷ ps) ps) ≡ pick b (Sent x) (last_of e (pick c (q ∷ qs) qs))
+in_front : (c b : Bool) (e : ℕ) (q x : Posted) (ps qs : List Posted) → last_of e ps ≡ pick b (Some x) (last_of e qs)
+    → last_of e (pick c (q ∷ ps) ps) ≡ pick b (Some x) (last_of e (pick c (q ∷ qs) qs))
 unfolding last_of
 in_front true true e q x ps qs h = rw h
 in_front true false e q x ps qs h = rw h
@@ -30,7 +30,7 @@ in_front false b e q x ps qs h = h
 
 -- the last record is the one that is sought, or those before it tell
 sought_from : (s : List ℕ) (t e m k : ℕ)
-    → last_of e (earlier t (posted_from s k (suc m))) ≡ pick (Ours t e (posted_at s (k + m))) (Sent (posted_at s (k + m))) (last_of e (earlier t (posted_from s k m)))
+    → last_of e (earlier t (posted_from s k (suc m))) ≡ pick (Ours t e (posted_at s (k + m))) (Some (posted_at s (k + m))) (last_of e (earlier t (posted_from s k m)))
 unfolding posted_from earlier last_of
 sought_from s t e zero k = rw add-zero (alone (ltb (posted_at s k).time.0 t) _ e (posted_at s k) refl)
 sought_from s t e (suc m) k =
@@ -41,17 +41,17 @@ sought_from s t e (suc m) k =
 
 -- q is the last of the first n records
 module _ (s : List ℕ) (t e n : ℕ) (q : Posted) (is : q ≡ posted_at s (n - 1)) (some : 0 < n) where
-  sought : last_of e (earlier t (posted_from s 0 n)) ≡ pick (Ours t e q) (Sent q) (last_of e (earlier t (posted_from s 0 (n - 1))))
+  sought : last_of e (earlier t (posted_from s 0 n)) ≡ pick (Ours t e q) (Some q) (last_of e (earlier t (posted_from s 0 (n - 1))))
   sought =
       let z : n ≡ suc (n - 1) = omega arith in
       ap (λ (m : ℕ). last_of e (earlier t (posted_from s 0 m))) z ∙ rw is (rw zero-add at (sought_from s t e (n - 1) 0))
 
-  pub met_last : Ours t e q ≡ true → Sent q ≡ last_of e (earlier t (posted_from s 0 n))
+  pub met_last : Ours t e q ≡ true → Some q ≡ last_of e (earlier t (posted_from s 0 n))
   met_last h = sym (sought ∙ rw h)
 
   pub passed : Ours t e q ≡ false → last_of e (earlier t (posted_from s 0 (n - 1))) ≡ last_of e (earlier t (posted_from s 0 n))
   passed h = sym (sought ∙ rw h)
 
-pub nobody_met : (s : List ℕ) (t e n : ℕ) → n ≡ 0 → Silent ≡ last_of e (earlier t (posted_from s 0 n))
+pub nobody_met : (s : List ℕ) (t e n : ℕ) → n ≡ 0 → None ≡ last_of e (earlier t (posted_from s 0 n))
 unfolding posted_from earlier last_of
 nobody_met s t e n h = rw h

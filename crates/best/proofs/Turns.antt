@@ -10,7 +10,7 @@ use lib.ListN.{length, get_or, set, length-map, get_or-map, replicate}
 use borrow.Author.Tests.{eqb-true, eqb-false}
 use Rattle.quotes.specs.Quotes.{posted_at, posted_from}
 use Rattle.quotes.proofs.Records.{all_left, posted_length, posted_none, posted_left}
-use Rattle.best.specs.Words.{Posted, Last, Silent, Walk}
+use Rattle.best.specs.Words.{Posted, Last, None, Walk}
 use Rattle.best.specs.Lasts.{lasts_from, lasts, last_of}
 use Rattle.best.specs.Examined.{known, all_known, examined_in}
 use Rattle.best.specs.Places.{placed_at, placed, met, Walked}
@@ -41,7 +41,7 @@ placed_known s (suc p) h = refl
 placed_silent : (s : List ℕ) (p : ℕ) → eqb p 0 ≡ true → known (placed_at s p) ≡ false
 placed_silent s p h = rw (eqb-true p 0 h)
 
-placed_get : (s l : List ℕ) (i : ℕ) → get_or (placed s l) i Silent ≡ placed_at s (get_or l i 0)
+placed_get : (s l : List ℕ) (i : ℕ) → get_or (placed s l) i None ≡ placed_at s (get_or l i 0)
 placed_get s l i = get_or-map (placed_at s) l i 0
 
 set_most : (n : ℕ) (l : List ℕ) (i v : ℕ) → ((k : ℕ) → get_or l k 0 ≤ n) → v ≤ n → (k : ℕ) → get_or (set l i v) k 0 ≤ n
@@ -62,7 +62,7 @@ module _ (s : List ℕ) (w : Walk) (i j : ℕ) where
       → (met w i (suc j)).known ≡ counted (heard (placed s w.last) i (posted_at s j))
   unfolding met
   met_known true e l c =
-      let k : known (get_or (placed s w.last) i Silent) ≡ false = rw (placed_get s w.last i) (placed_silent s (get_or w.last i 0) e) in
+      let k : known (get_or (placed s w.last) i None) ≡ false = rw (placed_get s w.last i) (placed_silent s (get_or w.last i 0) e) in
       let m = counted_more (placed s w.last) i (posted_at s j) k (rw length-map l) in
       rw (e, k) (omega arith)
   met_known false e l c = rw (e, placed_get s w.last i, placed_known s (get_or w.last i 0) e) c

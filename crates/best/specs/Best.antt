@@ -3,15 +3,15 @@
 use Rattle.std.specs.Prelude.{ℕ, ◌+◌, min, List, [], ◌∷◌}
 use Rattle.facts.specs.Numbers.{contracts}
 use Rattle.halves.specs.Halves.{half_of, better, size_if}
-use Rattle.best.specs.Words.{Price, None, Quote, Half, Last, Silent, Sent}
+use Rattle.best.specs.Words.{Price, None, Quote, Half, Last, Some}
 
 -- what an exchange says on this half. One that sent nothing says none, for nothing
 abbrev pub nobody : Quote
 nobody = record { price = None; size = contracts 0 }
 
 abbrev pub said_by : Half → Last → Quote
-said_by h Silent = nobody
-said_by h (Sent q) = half_of h q
+said_by h None = nobody
+said_by h (Some q) = half_of h q
 
 -- the highest bid, the lowest offer: none where nobody has a say
 unfoldable pub best_price : Half → List Quote → Price

@@ -2,13 +2,13 @@
 -- exchanges are known, or to the first if that never comes.
 use Rattle.std.specs.Prelude.{ℕ, suc, Bool, true, false, ◌&&◌, List, [], ◌∷◌, length}
 use Rattle.wire.specs.Tests.{pick}
-use Rattle.best.specs.Words.{Posted, Last, Silent, Sent}
+use Rattle.best.specs.Words.{Posted, Last, None, Some}
 use Rattle.best.specs.Lasts.{lasts}
 
 -- an exchange is known by any quote of it, none or not
 abbrev pub known : Last → Bool
-known Silent = false
-known (Sent q) = true
+known None = false
+known (Some q) = true
 
 unfoldable pub all_known : List Last → Bool
 all_known [] = true

@@ -2,14 +2,14 @@
 use Rattle.std.specs.Prelude.{ℕ, zero, suc, ◌+◌, ◌≤◌, ◌/◌, ◌≡◌, List, map, length, get_or, set, eqb}
 use Rattle.wire.specs.Tests.{pick}
 use Rattle.quotes.specs.Quotes.{posted_at, posted_from}
-use Rattle.best.specs.Words.{Quote, Half, Last, Silent, Sent, Walk}
+use Rattle.best.specs.Words.{Quote, Half, Last, None, Some, Walk}
 use Rattle.best.specs.Lasts.{lasts}
 use Rattle.best.specs.Examined.{examined_in}
 use Rattle.best.specs.Best.{said_by}
 
 abbrev pub placed_at : List ℕ → ℕ → Last
-placed_at s zero = Silent
-placed_at s (suc k) = Sent (posted_at s k)
+placed_at s zero = None
+placed_at s (suc k) = Some (posted_at s k)
 
 abbrev pub placed : List ℕ → List ℕ → List Last
 placed s places = map (placed_at s) places

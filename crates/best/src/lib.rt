@@ -12,16 +12,9 @@ ghost use Rattle.best.specs.Best.{said_by, nobody, best_price, size_at, best_of}
 ghost use Rattle.best.specs.Places.{placed_at, said, Within, met, Walked};
 ghost use Rattle.best.specs.Looked.{looked_in, unread, looked_of};
 
-use facts::{Contracts, Price, Quote};
+use facts::{Contracts, Mills, Quote};
 use halves::Half;
 use quotes::Posted;
-
-// What an exchange last sent: nothing, or a quote.
-#[derive(Clone, Copy)]
-pub enum Last {
-    Silent,
-    Sent(Posted),
-}
 
 // What a lookup finds: the number where it was refused, beside nothing; else 0, the best bid and the best offer.
 #[derive(Clone, Copy)]
@@ -42,18 +35,18 @@ pub struct Looked {
 
 // The last quote of one exchange strictly before the trade, for who asks where a price was born. No test is needed: of quotes that are out of
 // order it is the last record.
-pub fn last_before(quotes: &[u8], trade_time: u32, exchange: u32) -> Last
+pub fn last_before(quotes: &[u8], trade_time: u32, exchange: u32) -> Option<Posted>
     ensures { result ≡ last_of exchange (earlier trade_time (posted_in quotes.now)) }
 {
     let mut n = quotes.len() / 28;
     while 0 < n {
         let q = quotes::posted_at(quotes, n - 1);
         if (q.time.0 < trade_time) & (q.exchange == exchange) {
-            return Last::Sent(q);
+            return Some(q);
         }
         n -= 1;
     }
-    Last::Silent
+    None
 }
 
 // ---- the walk back
@@ -116,7 +109,7 @@ fn nobody() -> Quote
     ensures { result ≡ nobody }
 {
     Quote {
-        price: Price::None,
+        price: None,
         size: Contracts(0),
     }
 }
@@ -133,11 +126,11 @@ fn said_at(quotes: &[u8], place: usize, half: Half) -> Quote
 }
 
 // The highest bid or the lowest offer at the places.
-fn best_price(quotes: &[u8], last: [usize; 16], half: Half) -> Price
+fn best_price(quotes: &[u8], last: [usize; 16], half: Half) -> Option<Mills>
     requires { Within quotes.now last }
     ensures { result ≡ best_price half (said half quotes.now last) }
 {
-    let mut best = Price::None;
+    let mut best = None;
     let mut i: usize = 16;
     while 0 < i {
         i -= 1;
@@ -149,7 +142,7 @@ fn best_price(quotes: &[u8], last: [usize; 16], half: Half) -> Price
 }
 
 // The sum of the sizes at the price.
-fn size_at(quotes: &[u8], last: [usize; 16], half: Half, price: Price) -> u64
+fn size_at(quotes: &[u8], last: [usize; 16], half: Half, price: Option<Mills>) -> u64
     requires { Within quotes.now last }
     ensures { result ≡ size_at price (said half quotes.now last) }
 {

@@ -8,7 +8,7 @@ use Rattle.text.proofs.Decimal.{decimal_length}
 use Rattle.spelling.proofs.Times.{time_length}
 use Rattle.spelling.proofs.Dollars.{dollars_length}
 use Rattle.halves.specs.Halves.{half_of, same}
-use Rattle.best_lines.specs.Words.{Price, At, None, Quote, Posted, Half, Bid, Offer, Last, Silent, Sent}
+use Rattle.best_lines.specs.Words.{Price, Some, None, Quote, Posted, Half, Bid, Offer, Last}
 use Rattle.best_lines.specs.BestLines.{size_text, head_name, amount_text, head_line, quote_line, sayer_line}
 
 size_most : (n : ℕ) → length (size_text n) ≤ 16
@@ -22,7 +22,7 @@ name_most Offer = omega arith
 
 amount_most : (p : Price) (n : ℕ) → length (amount_text p n) ≤ 16
 unfolding amount_text
-amount_most (At p) n = size_most n
+amount_most (Some p) n = size_most n
 amount_most None n = omega arith
 
 pub head_most : (h : Half) (best : Quote) → length (head_line h best) ≤ 41
@@ -41,6 +41,6 @@ quote_long h q =
 
 pub sayer_most : (h : Half) (p : Price) (l : Last) → length (sayer_line h p l) ≤ 49
 unfolding sayer_line
-sayer_most h p Silent = omega arith
-sayer_most h p (Sent q) =
+sayer_most h p None = omega arith
+sayer_most h p (Some q) =
     either (λ (w : List ℕ). length w ≤ 49) (same p (half_of h q).price) (quote_line h q) [] (λ _. (quote_long h q).1) (λ _. omega arith)

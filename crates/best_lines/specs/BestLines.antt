@@ -5,7 +5,7 @@ use Rattle.text.specs.Text.{letters, decimal_of}
 use Rattle.spelling.specs.Times.{time_text}
 use Rattle.spelling.specs.Dollars.{dollars_text}
 use Rattle.halves.specs.Halves.{half_of, same}
-use Rattle.best_lines.specs.Words.{Price, At, None, Quote, Posted, Half, Bid, Offer, Last, Silent, Sent}
+use Rattle.best_lines.specs.Words.{Price, Some, None, Quote, Posted, Half, Bid, Offer, Last}
 
 -- how many contracts, which ends the line; 10 is the line feed
 unfoldable pub size_text : ℕ → List ℕ
@@ -20,7 +20,7 @@ head_name Offer = letters "best offer "
 
 -- the size beside a price; none is for nothing
 unfoldable pub amount_text : Price → ℕ → List ℕ
-amount_text (At p) n = size_text n
+amount_text (Some p) n = size_text n
 amount_text None n = 10 ∷ []
 
 -- the best of this half: its price in dollars and its size, or `none`
@@ -35,5 +35,5 @@ quote_line h q = letters "  exchange " ++ decimal_of q.exchange ++ letters " at 
 
 -- what an exchange last sent, where this half of it is at the price: no line where it is not, or where it sent nothing
 unfoldable pub sayer_line : Half → Price → Last → List ℕ
-sayer_line h p Silent = []
-sayer_line h p (Sent q) = pick (same p (half_of h q).price) (quote_line h q) []
+sayer_line h p None = []
+sayer_line h p (Some q) = pick (same p (half_of h q).price) (quote_line h q) []

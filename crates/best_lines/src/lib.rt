@@ -8,8 +8,8 @@ ghost use Rattle.text.specs.Text.{laid_at};
 ghost use Rattle.halves.specs.Halves.{same};
 ghost use Rattle.best_lines.specs.BestLines.{size_text, head_name, amount_text, head_line, quote_line, sayer_line};
 
-use best::Last;
-use facts::{Price, Quote};
+use best::Posted;
+use facts::{Mills, Quote};
 use halves::Half;
 use quotes::Posted;
 
@@ -36,13 +36,13 @@ fn add_name(out: &mut [u8], at: usize, half: Half) -> usize
 }
 
 // None is for nothing.
-fn add_amount(out: &mut [u8], at: usize, price: Price, n: u32) -> usize
+fn add_amount(out: &mut [u8], at: usize, price: Option<Mills>, n: u32) -> usize
     requires { at + 16 ≤ length out.old }
     ensures { (result ≡ at + length (amount_text price n)) × (out.new ≡ laid_at at (amount_text price n) out.old) × (result ≤ at + 16) }
 {
     match price {
-        Price::At(_) => add_size(out, at, n),
-        Price::None => text::add_byte(out, at, b'\n'),
+        Some(_) => add_size(out, at, n),
+        None => text::add_byte(out, at, b'\n'),
     }
 }
 
@@ -59,13 +59,13 @@ pub fn add_head(out: &mut [u8], at: usize, half: Half, best: Quote) -> usize
 
 // ---- an exchange at that price
 
-fn same(p: Price, q: Price) -> bool
+fn same(p: Option<Mills>, q: Option<Mills>) -> bool
     ensures { result ≡ same p q }
 {
-    let Price::At(a) = p else {
+    let Some(a) = p else {
         return false;
     };
-    let Price::At(b) = q else {
+    let Some(b) = q else {
         return false;
     };
     a.0 == b.0
@@ -84,11 +84,17 @@ fn add_quote(out: &mut [u8], at: usize, half: Half, q: Posted) -> usize
 }
 
 // The line of what an exchange last sent, where it is at the price; else nothing.
-pub fn add_sayer(out: &mut [u8], at: usize, half: Half, price: Price, last: Last) -> usize
+pub fn add_sayer(
+    out: &mut [u8],
+    at: usize,
+    half: Half,
+    price: Option<Mills>,
+    last: Option<Posted>,
+) -> usize
     requires { at + 49 ≤ length out.old }
     ensures { (result ≡ at + length (sayer_line half price last)) × (out.new ≡ laid_at at (sayer_line half price last) out.old) × (result ≤ at + 49) }
 {
-    let Last::Sent(q) = last else {
+    let Some(q) = last else {
         return at;
     };
     let side = halves::half_of(half, q);

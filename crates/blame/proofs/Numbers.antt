@@ -8,7 +8,7 @@ use Rattle.forms.specs.Forms.{form_of}
 use Rattle.record.specs.Record.{facts_of}
 use Rattle.refusals.specs.Tests.{length_ok, byte_tests, fact_tests}
 use Rattle.cases.specs.Cases.{refusal_of}
-use Rattle.blame.specs.Words.{Form, One, Two, Field, Sound, Bad}
+use Rattle.blame.specs.Words.{Form, One, Two, Field, None, Some}
 use Rattle.blame.specs.Fields.{field_ok, case_length, head_length, head_kind, head_fields, zero_field, coded_field, coded_fields, letter_field, code_fields, money_field, differential_fields, price_fields, count_field, count_fields, clock_field, lapse_field, time_fields, limit_field, limit_fields, terms_field, agreement_fields, inside_blame, blame_of, number_of}
 use Rattle.blame.proofs.Tests.{length_asked, head_asked, coded_asked, codes_asked, prices_asked, counts_asked, times_asked, limits_asked, agreement_asked}
 use Rattle.blame.proofs.Row.{test_by_test, OfTest, row_tells}
@@ -46,7 +46,7 @@ module _ (s : List ℕ) where
       (λ priced. row_tells 6 (count_fields s) _ _ _ (refl, (refl, (refl, tt))) (counts_asked s)
       (λ counted. row_tells 7 (time_fields s) _ _ _ (refl, (refl, (refl, (refl, tt)))) (times_asked s)
       (λ timed. row_tells 8 (limit_fields s) _ _ _ (refl, (refl, tt)) (limits_asked s priced)
-      (λ limited. row_tells 9 (agreement_fields s) Sound _ _ (refl, (refl, tt)) (agreement_asked s priced timed) (λ agreed. refl))))))))
+      (λ limited. row_tells 9 (agreement_fields s) None _ _ (refl, (refl, tt)) (agreement_asked s priced timed) (λ agreed. refl))))))))
 
   pub blamed_number : number_of (blame_of s) ≡ refusal_of s
   unfolding refusal_of
@@ -55,9 +55,9 @@ module _ (s : List ℕ) where
       ∙ row_tells 1 (case_length s ∷ []) (inside_blame s) _ _ (length_of_test s) (and-true (field_ok (case_length s)) ∙ length_asked s) inside_number
 
   -- a field is told with the number of the refusal
-  pub told_number : (f : Field) → blame_of s ≡ Bad f → f.test ≡ refusal_of s
+  pub told_number : (f : Field) → blame_of s ≡ Some f → f.test ≡ refusal_of s
   told_number f e = sym (ap number_of e) ∙ blamed_number
 
   -- and none where the case is accepted: one way here, the other in Order
-  pub sound_accepted : blame_of s ≡ Sound → refusal_of s ≡ 0
+  pub sound_accepted : blame_of s ≡ None → refusal_of s ≡ 0
   sound_accepted e = sym blamed_number ∙ ap number_of e

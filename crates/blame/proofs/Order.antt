@@ -13,7 +13,7 @@ use Rattle.wire.specs.Tests.{pick}
 use Rattle.wire.proofs.Tests.{fails, both_true}
 use Rattle.forms.specs.Forms.{form_of}
 use Rattle.cases.specs.Cases.{refusal_of}
-use Rattle.blame.specs.Words.{Form, One, Two, Field, Sound, Bad}
+use Rattle.blame.specs.Words.{Form, One, Two, Field, None, Some}
 use Rattle.blame.specs.Fields.{field_ok, keep, first_bad, case_length, head_length, head_kind, head_fields, zero_field, coded_field, coded_fields, letter_field, code_fields, money_field, differential_fields, price_fields, count_field, count_fields, clock_field, lapse_field, time_fields, limit_field, limit_fields, terms_field, agreement_fields, fields_of, blame_of, number_of}
 use Rattle.blame.proofs.Numbers.{blamed_number}
 
@@ -31,11 +31,11 @@ all_after P [] gs p q = q
 all_after P (f ∷ fs) gs p q = (p.0, all_after P fs gs p.1 q)
 
 -- ---- the first that is told is one of them, and not in order
-first_bad_lem : (fs : List Field) (f : Field) → first_bad fs ≡ Bad f → In f fs × (field_ok f ≡ false)
+first_bad_lem : (fs : List Field) (f : Field) → first_bad fs ≡ Some f → In f fs × (field_ok f ≡ false)
 unfolding keep
 first_bad_lem [] f e = let z : ◌≡◌ {A = ℕ} 0 1 = cc in absurd (let n : ⊥ = omega arith in n)
 first_bad_lem (g ∷ gs) f e = by_test (field_ok g) refl (first_bad_lem gs f) e where
-  by_test : (t : Bool) → field_ok g ≡ t → (first_bad gs ≡ Bad f → In f gs × (field_ok f ≡ false)) → pick t (first_bad gs) (Bad g) ≡ Bad f
+  by_test : (t : Bool) → field_ok g ≡ t → (first_bad gs ≡ Some f → In f gs × (field_ok f ≡ false)) → pick t (first_bad gs) (Some g) ≡ Some f
       → ((f ≡ g) ⊎ In f gs) × (field_ok f ≡ false)
   by_test true h later k = let l = later k in (inr l.0, l.1)
   by_test false h later k = let same : f ≡ g = cc in (inl same, ap field_ok same ∙ h)
@@ -63,7 +63,7 @@ behind f (h ∷ hs) o g m = after (both_true (ltb (place f) (place h)) (in_order
   after p later (inl e) = let n = ltb-true (place f) (place h) p.0 in let q = ap place e in omega arith
   after p later (inr k) = let n = ltb-true (place f) (place h) p.0 in let q = later p.1 g k in omega arith
 
-before_passes : (fs : List Field) (f g : Field) → in_order fs ≡ true → first_bad fs ≡ Bad f → In g fs → place g < place f → field_ok g ≡ true
+before_passes : (fs : List Field) (f g : Field) → in_order fs ≡ true → first_bad fs ≡ Some f → In g fs → place g < place f → field_ok g ≡ true
 unfolding keep
 before_passes [] f g o e m l = absurd m
 before_passes (h ∷ hs) f g o e m l =
@@ -72,7 +72,7 @@ before_passes (h ∷ hs) f g o e m l =
       stands_behind s (inl i) = let p = ap place i in let q = ap place s in omega arith
       stands_behind s (inr i) = let p = behind h hs o g i in let q = ap place s in omega arith
 
-      by_test : (t : Bool) → field_ok h ≡ t → (first_bad hs ≡ Bad f → In g hs → field_ok g ≡ true) → pick t (first_bad hs) (Bad h) ≡ Bad f
+      by_test : (t : Bool) → field_ok h ≡ t → (first_bad hs ≡ Some f → In g hs → field_ok g ≡ true) → pick t (first_bad hs) (Some h) ≡ Some f
           → (g ≡ h) ⊎ In g hs → field_ok g ≡ true
       by_test true b later k (inl i) = ap field_ok i ∙ b
       by_test true b later k (inr i) = later k i
@@ -96,12 +96,12 @@ abbrev all_numbered : List Field → Bool
 all_numbered [] = true
 all_numbered (f ∷ fs) = not (eqb f.test 0) && all_numbered fs
 
-none_told : (fs : List Field) → all_numbered fs ≡ true → number_of (first_bad fs) ≡ 0 → first_bad fs ≡ Sound
+none_told : (fs : List Field) → all_numbered fs ≡ true → number_of (first_bad fs) ≡ 0 → first_bad fs ≡ None
 unfolding keep
 none_told [] n e = refl
 none_told (f ∷ fs) n e = by_test (field_ok f) (both_true (not (eqb f.test 0)) (all_numbered fs) n) (none_told fs) e where
-  by_test : (t : Bool) → (not (eqb f.test 0) ≡ true) × (all_numbered fs ≡ true) → (all_numbered fs ≡ true → number_of (first_bad fs) ≡ 0 → first_bad fs ≡ Sound)
-      → number_of (pick t (first_bad fs) (Bad f)) ≡ 0 → pick t (first_bad fs) (Bad f) ≡ Sound
+  by_test : (t : Bool) → (not (eqb f.test 0) ≡ true) × (all_numbered fs ≡ true) → (all_numbered fs ≡ true → number_of (first_bad fs) ≡ 0 → first_bad fs ≡ None)
+      → number_of (pick t (first_bad fs) (Some f)) ≡ 0 → pick t (first_bad fs) (Some f) ≡ None
   by_test true h later k = later h.1 k
   by_test false h later k = absurd (eqb-false f.test 0 (fails (eqb f.test 0) h.0) k)
 
@@ -156,11 +156,11 @@ module _ (s : List ℕ) where
     by_form One e = simp e
     by_form (Two d) e = simp e
 
-  pub accepted_sound : refusal_of s ≡ 0 → blame_of s ≡ Sound
+  pub accepted_sound : refusal_of s ≡ 0 → blame_of s ≡ None
   unfolding blame_of
   accepted_sound e = none_told (fields_of s) numbered (blamed_number s ∙ e)
 
-  module _ (f : Field) (told : blame_of s ≡ Bad f) where
+  module _ (f : Field) (told : blame_of s ≡ Some f) where
     -- the field told is one of the record's, and out of its bounds
     pub told_bad : In f (fields_of s) × (field_ok f ≡ false)
     unfolding blame_of

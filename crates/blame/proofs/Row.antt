@@ -7,7 +7,7 @@ use lib.ListN.{length}
 use Rattle.wire.specs.Tests.{pick}
 use Rattle.wire.proofs.Tests.{fails, holds}
 use Rattle.forms.proofs.Heads.{has_88}
-use Rattle.blame.specs.Words.{Field, Blame, Bad}
+use Rattle.blame.specs.Words.{Field, Blame, Some}
 use Rattle.blame.specs.Fields.{field_ok, keep, or_later, case_length, inside_blame, blame_of, number_of}
 use Rattle.blame.proofs.Tests.{all_ok, length_asked}
 
@@ -23,9 +23,9 @@ module _ (s : List ℕ) where
   test_by_test = ap (keep (case_length s)) (simp row_after)
 
   -- another length is told before anything else
-  pub length_stops : (f : Field) (ok : Bool) → f ≡ case_length s → ok ≡ field_ok f → not ok ≡ true → Bad f ≡ blame_of s
+  pub length_stops : (f : Field) (ok : Bool) → f ≡ case_length s → ok ≡ field_ok f → not ok ≡ true → Some f ≡ blame_of s
   unfolding keep
-  length_stops f ok e o h = sym (test_by_test ∙ simp (sym (o ∙ ap field_ok e) ∙ fails ok h) (ap Bad (sym e)))
+  length_stops f ok e o h = sym (test_by_test ∙ simp (sym (o ∙ ap field_ok e) ∙ fails ok h) (ap Some (sym e)))
 
   module _ (f : Field) (ok : Bool) (e : f ≡ case_length s) (o : ok ≡ field_ok f) (h : not ok ≡ false) where
     length_passes : field_ok (case_length s) ≡ true
@@ -50,7 +50,7 @@ unfolding keep
 row_number n [] later h = refl
 row_number n (f ∷ fs) later h = by_test (field_ok f) (row_number n fs later h.1) where
   by_test : (t : Bool) → number_of (or_later fs later) ≡ pick (all_ok fs) (number_of later) n
-      → number_of (pick t (or_later fs later) (Bad f)) ≡ pick (t && all_ok fs) (number_of later) n
+      → number_of (pick t (or_later fs later) (Some f)) ≡ pick (t && all_ok fs) (number_of later) n
   by_test true e = e
   by_test false e = h.0
 

@@ -1,5 +1,6 @@
 -- All the fields of a test are in order exactly where the test holds, test by test: of 2 in a case of a right length, of 8 and 9 where the tests
 -- before them hold, which is where they are asked.
+use Rattle.std.specs.Prelude.{Some, None}
 use Prim.Native.Nat.{ℕ, ◌≤◌}
 use mathlib.Core.Path.{◌≡◌, refl, sym, ap₂, ◌∙◌}
 use mathlib.Core.Bool.{Bool, true, false, not, ◌&&◌, ◌||◌, and-true, and-false, or-true, or-false, and_assoc, and_comm, or_comm}
@@ -15,14 +16,13 @@ use Rattle.wire.proofs.Tests.{both_true}
 use Rattle.facts.specs.Numbers.{mills, contracts, seconds, price_of, moment_of}
 use Rattle.facts.specs.Limits.{violates}
 use Rattle.facts.specs.declared.Side.TheVariants.{Buy, Sell}
-use Rattle.facts.specs.declared.Moment.TheVariants.{After, Never}
 use Rattle.codes.specs.Codes.{day_of, agreement_of}
 use Rattle.forms.specs.Heads.{pairs, is_length, known, size_in, kind_in}
 use Rattle.forms.specs.Forms.{form_kind, form_of, differential_of}
 use Rattle.forms.proofs.Heads.{lengths, form_one, form_two}
 use Rattle.record.specs.Record.{trade_of, market_of, request_of, party_at, settlement_of, facts_of}
 use Rattle.refusals.specs.Tests.{length_ok, head_ok, zeros_ok, lists_ok, coded_ok, code_byte_ok, code_ok, codes_ok, price_ok, quotes_priced, differential_ok, prices_ok, quote_ok, counts_ok, moment_ok, filed_ok, times_ok, limits_ok, agreement_ok}
-use Rattle.blame.specs.Words.{Price, At, None, Day, TradeDate, NextDay, Later, Agreement, NotMade, OnPrice, ToNullify, One, Two, FieldName, Measure, Because, Bounds, Field}
+use Rattle.blame.specs.Words.{Price, Some, None, Day, TradeDate, NextDay, Later, Agreement, NotMade, OnPrice, ToNullify, One, Two, FieldName, Measure, Because, Bounds, Field}
 use Rattle.blame.specs.Fields.{field_ok, within, or_none, capped, case_length, head_length, head_kind, head_fields, zero_field, coded_field, coded_fields, letter_field, code_fields, money_field, differential_fields, price_fields, size_bounds, count_field, count_fields, filed_bounds, clock_field, lapse_field, time_fields, limit_field, limit_fields, agreed_bounds, made_bounds, terms_field, agreement_fields}
 use Rattle.blame.proofs.Ranges.{not_below, exactly, nothing, up_to_lem, byte_number}
 
@@ -121,7 +121,7 @@ money_ok s name at b = refl
 price_allowed : (n : ℕ) → allows (or_none 0 9999999) n ≡ price_ok (price_of n)
 unfolding price_of
 price_allowed n = simp (allows_none, up_to_lem) (by_test (eqb n 4294967295) refl) where
-  by_test : (t : Bool) → eqb n 4294967295 ≡ t → (leb n 9999999 || t) ≡ price_ok (pick t None (At (mills n)))
+  by_test : (t : Bool) → eqb n 4294967295 ≡ t → (leb n 9999999 || t) ≡ price_ok (pick t None (Some (mills n)))
   by_test true h = or-true (leb n 9999999)
   by_test false h = or-false (leb n 9999999)
 
@@ -144,7 +144,7 @@ count_ok s name at b because = refl
 
 size_allowed : (p : Price) (n : ℕ) → allows (size_bounds p) n ≡ quote_ok p (contracts n)
 unfolding in_range
-size_allowed (At m) n = simp allows_range (by_test (eqb m.0 0)) where
+size_allowed (Some m) n = simp allows_range (by_test (eqb m.0 0)) where
   by_test : (t : Bool) → (leb (pick t 0 1) n && leb n 1000000) ≡ (leb n 1000000 && (t || leb 1 n))
   by_test true = simp (leb-zero n, and-true)
   by_test false = and_comm (leb 1 n) (leb n 1000000)
@@ -166,7 +166,7 @@ lapse_ok s name at b = refl
 moment_allowed : (n : ℕ) → allows (or_none 0 86400) n ≡ moment_ok (moment_of n)
 unfolding moment_of
 moment_allowed n = simp (allows_none, up_to_lem) (by_test (eqb n 4294967295) refl) where
-  by_test : (t : Bool) → eqb n 4294967295 ≡ t → (leb n 86400 || t) ≡ moment_ok (pick t Never (After (seconds n)))
+  by_test : (t : Bool) → eqb n 4294967295 ≡ t → (leb n 86400 || t) ≡ moment_ok (pick t None (Some (seconds n)))
   by_test true h = or-true (leb n 86400)
   by_test false h = or-false (leb n 86400)
 
@@ -197,7 +197,7 @@ times_asked s =
 price_most : (n : ℕ) → price_ok (price_of n) ≡ true → n ≤ 4294967295
 unfolding price_of
 price_most n h = by_test (eqb n 4294967295) refl h where
-  by_test : (t : Bool) → eqb n 4294967295 ≡ t → price_ok (pick t None (At (mills n))) ≡ true → n ≤ 4294967295
+  by_test : (t : Bool) → eqb n 4294967295 ≡ t → price_ok (pick t None (Some (mills n))) ≡ true → n ≤ 4294967295
   by_test true e k = let i = eqb-true n 4294967295 e in omega arith
   by_test false e k = let i = leb-true n 9999999 k in omega arith
 
@@ -235,7 +235,7 @@ from_price limit price h = simp (h, and-true)
 highest_allowed : (limit price : ℕ) → limit ≤ 4294967295 → allows (or_none price 4294967294) limit ≡ not (violates Buy (price_of limit) (mills price))
 unfolding price_of
 highest_allowed limit price most = simp allows_none (by_test (eqb limit 4294967295) refl) where
-  by_test : (t : Bool) → eqb limit 4294967295 ≡ t → (in_range price 4294967294 limit || t) ≡ not (violates Buy (pick t None (At (mills limit))) (mills price))
+  by_test : (t : Bool) → eqb limit 4294967295 ≡ t → (in_range price 4294967294 limit || t) ≡ not (violates Buy (pick t None (Some (mills limit))) (mills price))
   by_test true h = or-true (in_range price 4294967294 limit)
   by_test false h =
       let n = eqb-false limit 4294967295 h in
@@ -244,7 +244,7 @@ highest_allowed limit price most = simp allows_none (by_test (eqb limit 42949672
 lowest_allowed : (limit price : ℕ) → allows (or_none 0 price) limit ≡ not (violates Sell (price_of limit) (mills price))
 unfolding price_of
 lowest_allowed limit price = simp (allows_none, up_to_lem) (by_test (eqb limit 4294967295) refl) where
-  by_test : (t : Bool) → eqb limit 4294967295 ≡ t → (leb limit price || t) ≡ not (violates Sell (pick t None (At (mills limit))) (mills price))
+  by_test : (t : Bool) → eqb limit 4294967295 ≡ t → (leb limit price || t) ≡ not (violates Sell (pick t None (Some (mills limit))) (mills price))
   by_test true h = or-true (leb limit price)
   by_test false h = or-false (leb limit price) ∙ sym (not_below price limit)
 
@@ -264,15 +264,15 @@ terms_allowed : (a : Agreement) (agreed made : ℕ) → agreed ≤ 4294967295 �
     → (allows (agreed_bounds a) agreed && allows (made_bounds a) made) ≡ agreement_ok a (price_of agreed) (seconds made)
 unfolding price_of
 terms_allowed NotMade agreed made p q = simp (allows_range, exactly) (by_test (eqb agreed 4294967295)) where
-  by_test : (t : Bool) → (t && eqb made 0) ≡ agreement_ok NotMade (pick t None (At (mills agreed))) (seconds made)
+  by_test : (t : Bool) → (t && eqb made 0) ≡ agreement_ok NotMade (pick t None (Some (mills agreed))) (seconds made)
   by_test true = refl
   by_test false = refl
 terms_allowed OnPrice agreed made p q = simp (allows_range, up_to_lem, le-leb made 4294967295 q, and-true) (by_test (eqb agreed 4294967295) refl) where
-  by_test : (t : Bool) → eqb agreed 4294967295 ≡ t → leb agreed 4294967294 ≡ agreement_ok OnPrice (pick t None (At (mills agreed))) (seconds made)
+  by_test : (t : Bool) → eqb agreed 4294967295 ≡ t → leb agreed 4294967294 ≡ agreement_ok OnPrice (pick t None (Some (mills agreed))) (seconds made)
   by_test true h = simp (eqb-true agreed 4294967295 h)
   by_test false h = let n = eqb-false agreed 4294967295 h in le-leb agreed 4294967294 (omega arith)
 terms_allowed ToNullify agreed made p q = simp (allows_range, exactly, up_to_lem, le-leb made 4294967295 q, and-true) (by_test (eqb agreed 4294967295)) where
-  by_test : (t : Bool) → t ≡ agreement_ok ToNullify (pick t None (At (mills agreed))) (seconds made)
+  by_test : (t : Bool) → t ≡ agreement_ok ToNullify (pick t None (Some (mills agreed))) (seconds made)
   by_test true = refl
   by_test false = refl
 

@@ -6,7 +6,7 @@ use Rattle.wire.specs.Tests.{pick, in_range}
 use Rattle.facts.specs.Numbers.{price_of}
 use Rattle.codes.specs.Codes.{day_of, agreement_of}
 use Rattle.forms.specs.Forms.{form_kind, form_of}
-use Rattle.blame.specs.Words.{Price, At, None, Day, TradeDate, NextDay, Later, Agreement, NotMade, OnPrice, ToNullify, Form, One, Two, FieldName, CaseLength, HeadLength, HeadKind, ZeroBytes, SideInError, OpeningFlag, ExpiryFlag, PanelFlag, BuyerKind, SellerKind, FilingDay, AgreementCode, BuyerCode, SellerCode, ExecutionPrice, BestBid, BestOffer, OfficialPrice, BuyerLimit, SellerLimit, AgreedPrice, Differential, ContractsTraded, BidSize, OfferSize, ExecutionTime, FilingTime, AgreementMade, AcceptanceMade, Measure, Plain, Counted, Money, Clocked, Lapsed, Lettered, Because, NoMatter, TheCase, TheBid, TheOffer, Executed, TheExecution, TheAgreement, Bounds, Field, Blame, Sound, Bad}
+use Rattle.blame.specs.Words.{Price, Some, None, Day, TradeDate, NextDay, Later, Agreement, NotMade, OnPrice, ToNullify, Form, One, Two, FieldName, CaseLength, HeadLength, HeadKind, ZeroBytes, SideInError, OpeningFlag, ExpiryFlag, PanelFlag, BuyerKind, SellerKind, FilingDay, AgreementCode, BuyerCode, SellerCode, ExecutionPrice, BestBid, BestOffer, OfficialPrice, BuyerLimit, SellerLimit, AgreedPrice, Differential, ContractsTraded, BidSize, OfferSize, ExecutionTime, FilingTime, AgreementMade, AcceptanceMade, Measure, Plain, Counted, Money, Clocked, Lapsed, Lettered, Because, NoMatter, TheCase, TheBid, TheOffer, Executed, TheExecution, TheAgreement, Bounds, Field, Blame}
 
 -- ---- a field is in order where its number is in one of its two ranges
 unfoldable pub field_ok : Field → Bool
@@ -14,7 +14,7 @@ field_ok f = in_range f.low f.high f.number || in_range f.low2 f.high2 f.number
 
 -- what the later fields say where this one is in order, else this one
 unfoldable pub keep : Field → Blame → Blame
-keep f later = pick (field_ok f) later (Bad f)
+keep f later = pick (field_ok f) later (Some f)
 
 -- the first of these fields that is not in order, or what the later ones say
 abbrev pub or_later : List Field → Blame → Blame
@@ -22,7 +22,7 @@ or_later [] later = later
 or_later (f ∷ fs) later = keep f (or_later fs later)
 
 abbrev pub first_bad : List Field → Blame
-first_bad fs = or_later fs Sound
+first_bad fs = or_later fs None
 
 -- ---- what a field may hold: one range alone, or none besides (4,294,967,295: RULE R2.4). A range of 1 to 0 holds nothing.
 abbrev pub within : ℕ → ℕ → Bounds
@@ -142,7 +142,7 @@ price_fields s =
 
 -- ---- 6: 1 to 1,000,000 contracts; a size is at most 1,000,000, at least 1 for a quote above zero, 0 for a quote of none
 abbrev pub size_bounds : Price → Bounds
-size_bounds (At m) = within (pick (eqb m.0 0) 0 1) 1000000
+size_bounds (Some m) = within (pick (eqb m.0 0) 0 1) 1000000
 size_bounds None = within 0 0
 
 unfoldable pub count_field : List ℕ → FieldName → ℕ → Bounds → Because → Field
@@ -217,7 +217,7 @@ inside_blame s =
     or_later (head_fields s)
     (or_later (coded_fields s)
     (or_later (code_fields s)
-    (or_later (price_fields s) (or_later (count_fields s) (or_later (time_fields s) (or_later (limit_fields s) (or_later (agreement_fields s) Sound)))))))
+    (or_later (price_fields s) (or_later (count_fields s) (or_later (time_fields s) (or_later (limit_fields s) (or_later (agreement_fields s) None)))))))
 
 -- ---- all of them, in the order of the tests
 abbrev pub fields_of : List ℕ → List Field
@@ -234,5 +234,5 @@ blame_of s = first_bad (fields_of s)
 
 -- the number of its test, or 0
 abbrev pub number_of : Blame → ℕ
-number_of Sound = 0
-number_of (Bad f) = f.test
+number_of None = 0
+number_of (Some f) = f.test

@@ -1,6 +1,7 @@
 -- The declared types that a field speaks of, and their cases, passed on under their own names.
-pub use Rattle.facts.specs.declared.Price.{Price}
-pub use Rattle.facts.specs.declared.Price.TheVariants.{At, None}
+use Rattle.std.specs.Prelude.{Option}
+pub use Rattle.std.specs.Prelude.{Some, None}
+pub use Rattle.facts.specs.Words.{Price}
 pub use Rattle.facts.specs.declared.Day.{Day}
 pub use Rattle.facts.specs.declared.Day.TheVariants.{TradeDate, NextDay, Later}
 pub use Rattle.facts.specs.declared.Agreement.{Agreement}
@@ -15,5 +16,7 @@ pub use Rattle.blame.specs.declared.Because.{Because}
 pub use Rattle.blame.specs.declared.Because.TheVariants.{NoMatter, TheCase, TheBid, TheOffer, Executed, TheExecution, TheAgreement}
 pub use Rattle.blame.specs.declared.Bounds.{Bounds}
 pub use Rattle.blame.specs.declared.Field.{Field}
-pub use Rattle.blame.specs.declared.Blame.{Blame}
-pub use Rattle.blame.specs.declared.Blame.TheVariants.{Sound, Bad}
+
+-- The field that is bad, or none.
+abbrev pub Blame : Type 0
+Blame = Option Field

@@ -9,7 +9,7 @@ ghost use Rattle.facts.specs.Numbers.{price_of};
 ghost use Rattle.forms.specs.Forms.{form_of};
 ghost use Rattle.blame.specs.Fields.{field_ok, keep, or_later, within, or_none, held_at, capped, case_length, head_fields, zero_field, coded_field, listed_fields, coded_fields, letter_field, code_fields, money_field, differential_fields, price_fields, size_bounds, count_field, count_fields, filed_bounds, filed_because, clock_field, filed_field, lapse_field, time_fields, limit_field, limit_fields, agreed_bounds, made_bounds, terms_field, agreement_fields, inside_blame, blame_of};
 
-use facts::{Agreement, Day, Price};
+use facts::{Agreement, Day, Mills};
 
 // The fields of the record, as the page's table has them (RULE R2.6); the two stretches of zeros share a name, and so do the bytes of a code.
 #[derive(Clone, Copy)]
@@ -85,13 +85,6 @@ pub struct Field {
     pub because: Because,
 }
 
-// Every field in order, or the first that is not.
-#[derive(Clone, Copy)]
-pub enum Blame {
-    Sound,
-    Bad(Field),
-}
-
 // Two ranges, as a field has them.
 #[derive(Clone, Copy)]
 struct Bounds {
@@ -110,13 +103,13 @@ fn field_ok(f: Field) -> bool
 }
 
 // What the later fields say where this one is in order: a row of fields, told from its end.
-fn keep(f: Field, later: Blame) -> Blame
+fn keep(f: Field, later: Option<Field>) -> Option<Field>
     ensures { result ≡ keep f later }
 {
     if field_ok(f) {
         return later;
     }
-    Blame::Bad(f)
+    Some(f)
 }
 
 fn within(low: u32, high: u32) -> Bounds
@@ -256,7 +249,7 @@ fn case_length(s: &[u8]) -> Field
 
 // ---- 2: length and kind at the head
 
-fn head_blame(s: &[u8], later: Blame) -> Blame
+fn head_blame(s: &[u8], later: Option<Field>) -> Option<Field>
     requires { 88 ≤ length s.now }
     ensures { result ≡ or_later (head_fields s.now) later }
 {
@@ -273,7 +266,7 @@ fn head_blame(s: &[u8], later: Blame) -> Blame
 
 // ---- 3: zeros and coded bytes
 
-fn keep_zero(s: &[u8], at: u8, later: Blame) -> Blame
+fn keep_zero(s: &[u8], at: u8, later: Option<Field>) -> Option<Field>
     requires { at + 4 ≤ length s.now }
     ensures { result ≡ keep (zero_field s.now at) later }
 {
@@ -283,7 +276,14 @@ fn keep_zero(s: &[u8], at: u8, later: Blame) -> Blame
     keep(zeros, later)
 }
 
-fn keep_coded(s: &[u8], name: FieldName, at: u8, low: u32, high: u32, later: Blame) -> Blame
+fn keep_coded(
+    s: &[u8],
+    name: FieldName,
+    at: u8,
+    low: u32,
+    high: u32,
+    later: Option<Field>,
+) -> Option<Field>
     requires { at < length s.now }
     ensures { result ≡ keep (coded_field s.now name at low high) later }
 {
@@ -292,7 +292,7 @@ fn keep_coded(s: &[u8], name: FieldName, at: u8, low: u32, high: u32, later: Bla
 }
 
 // The kinds of the parties, the filing day and the agreement, and the zeros behind them.
-fn listed_blame(s: &[u8], later: Blame) -> Blame
+fn listed_blame(s: &[u8], later: Option<Field>) -> Option<Field>
     requires { 88 ≤ length s.now }
     ensures { result ≡ or_later (listed_fields s.now) later }
 {
@@ -303,7 +303,7 @@ fn listed_blame(s: &[u8], later: Blame) -> Blame
     keep_coded(s, FieldName::BuyerKind, 64, 1, 3, seller)
 }
 
-fn coded_blame(s: &[u8], later: Blame) -> Blame
+fn coded_blame(s: &[u8], later: Option<Field>) -> Option<Field>
     requires { 88 ≤ length s.now }
     ensures { result ≡ or_later (coded_fields s.now) later }
 {
@@ -317,7 +317,7 @@ fn coded_blame(s: &[u8], later: Blame) -> Blame
 
 // ---- 4: member codes
 
-fn keep_letter(s: &[u8], name: FieldName, at: u8, later: Blame) -> Blame
+fn keep_letter(s: &[u8], name: FieldName, at: u8, later: Option<Field>) -> Option<Field>
     requires { at < length s.now }
     ensures { result ≡ keep (letter_field s.now name at) later }
 {
@@ -330,7 +330,7 @@ fn keep_letter(s: &[u8], name: FieldName, at: u8, later: Blame) -> Blame
     keep(byte_at(s, name, 4, Measure::Lettered, at, bounds), later)
 }
 
-fn code_blame(s: &[u8], later: Blame) -> Blame
+fn code_blame(s: &[u8], later: Option<Field>) -> Option<Field>
     requires { 88 ≤ length s.now }
     ensures { result ≡ or_later (code_fields s.now) later }
 {
@@ -346,7 +346,13 @@ fn code_blame(s: &[u8], later: Blame) -> Blame
 
 // ---- 5: prices
 
-fn keep_money(s: &[u8], name: FieldName, at: u8, bounds: Bounds, later: Blame) -> Blame
+fn keep_money(
+    s: &[u8],
+    name: FieldName,
+    at: u8,
+    bounds: Bounds,
+    later: Option<Field>,
+) -> Option<Field>
     requires { at + 4 ≤ length s.now }
     ensures { result ≡ keep (money_field s.now name at bounds) later }
 {
@@ -354,7 +360,7 @@ fn keep_money(s: &[u8], name: FieldName, at: u8, bounds: Bounds, later: Blame) -
     keep(money, later)
 }
 
-fn differential_blame(s: &[u8], later: Blame) -> Blame
+fn differential_blame(s: &[u8], later: Option<Field>) -> Option<Field>
     ensures { result ≡ or_later (differential_fields (form_of s.now) s.now) later }
 {
     if s.len() < 92 {
@@ -363,7 +369,7 @@ fn differential_blame(s: &[u8], later: Blame) -> Blame
     keep_money(s, FieldName::Differential, 88, within(1, 9999999), later)
 }
 
-fn price_blame(s: &[u8], later: Blame) -> Blame
+fn price_blame(s: &[u8], later: Option<Field>) -> Option<Field>
     requires { 88 ≤ length s.now }
     ensures { result ≡ or_later (price_fields s.now) later }
 {
@@ -380,17 +386,17 @@ fn price_blame(s: &[u8], later: Blame) -> Blame
 
 // ---- 6: contracts and sizes
 
-fn size_bounds(quote: Price) -> Bounds
+fn size_bounds(quote: Option<Mills>) -> Bounds
     ensures { result ≡ size_bounds quote }
 {
     match quote {
-        Price::At(m) => {
+        Some(m) => {
             if m.0 == 0 {
                 return within(0, 1000000);
             }
             within(1, 1000000)
         }
-        Price::None => within(0, 0),
+        None => within(0, 0),
     }
 }
 
@@ -408,8 +414,8 @@ fn keep_count(
     at: u8,
     bounds: Bounds,
     because: Because,
-    later: Blame,
-) -> Blame
+    later: Option<Field>,
+) -> Option<Field>
     requires { at + 4 ≤ length s.now }
     ensures { result ≡ keep (count_field s.now name at bounds because) later }
 {
@@ -417,7 +423,7 @@ fn keep_count(
     keep(count, later)
 }
 
-fn count_blame(s: &[u8], later: Blame) -> Blame
+fn count_blame(s: &[u8], later: Option<Field>) -> Option<Field>
     requires { 88 ≤ length s.now }
     ensures { result ≡ or_later (count_fields s.now) later }
 {
@@ -471,8 +477,8 @@ fn keep_clock(
     at: u8,
     bounds: Bounds,
     because: Because,
-    later: Blame,
-) -> Blame
+    later: Option<Field>,
+) -> Option<Field>
     requires { at + 4 ≤ length s.now }
     ensures { result ≡ keep (clock_field s.now name at bounds because) later }
 {
@@ -480,7 +486,13 @@ fn keep_clock(
     keep(clock, later)
 }
 
-fn keep_lapse(s: &[u8], name: FieldName, at: u8, bounds: Bounds, later: Blame) -> Blame
+fn keep_lapse(
+    s: &[u8],
+    name: FieldName,
+    at: u8,
+    bounds: Bounds,
+    later: Option<Field>,
+) -> Option<Field>
     requires { at + 4 ≤ length s.now }
     ensures { result ≡ keep (lapse_field s.now name at bounds) later }
 {
@@ -488,7 +500,7 @@ fn keep_lapse(s: &[u8], name: FieldName, at: u8, bounds: Bounds, later: Blame) -
     keep(lapse, later)
 }
 
-fn keep_filed(s: &[u8], later: Blame) -> Blame
+fn keep_filed(s: &[u8], later: Option<Field>) -> Option<Field>
     requires { 88 ≤ length s.now }
     ensures { result ≡ keep (filed_field s.now) later }
 {
@@ -498,7 +510,7 @@ fn keep_filed(s: &[u8], later: Blame) -> Blame
     keep_clock(s, FieldName::FilingTime, 72, bounds, why, later)
 }
 
-fn time_blame(s: &[u8], later: Blame) -> Blame
+fn time_blame(s: &[u8], later: Option<Field>) -> Option<Field>
     requires { 88 ≤ length s.now }
     ensures { result ≡ or_later (time_fields s.now) later }
 {
@@ -533,7 +545,7 @@ fn limit_at(s: &[u8], name: FieldName, at: u8, bounds: Bounds) -> Field
     )
 }
 
-fn limit_blame(s: &[u8], later: Blame) -> Blame
+fn limit_blame(s: &[u8], later: Option<Field>) -> Option<Field>
     requires { 88 ≤ length s.now }
     ensures { result ≡ or_later (limit_fields s.now) later }
 {
@@ -572,7 +584,7 @@ fn terms_at(s: &[u8], name: FieldName, unit: Measure, at: u8, bounds: Bounds) ->
     four_at(s, name, 9, unit, at, bounds, Because::TheAgreement)
 }
 
-fn agreement_blame(s: &[u8], later: Blame) -> Blame
+fn agreement_blame(s: &[u8], later: Option<Field>) -> Option<Field>
     requires { 88 ≤ length s.now }
     ensures { result ≡ or_later (agreement_fields s.now) later }
 {
@@ -587,11 +599,11 @@ fn agreement_blame(s: &[u8], later: Blame) -> Blame
 // ---- the first field that is not in order
 
 // What the tests 2 to 9 say of a case that is long enough to be asked.
-fn blame_inside(s: &[u8]) -> Blame
+fn blame_inside(s: &[u8]) -> Option<Field>
     requires { 88 ≤ length s.now }
     ensures { result ≡ inside_blame s.now }
 {
-    let agreement = agreement_blame(s, Blame::Sound);
+    let agreement = agreement_blame(s, None);
     let limits = limit_blame(s, agreement);
     let times = time_blame(s, limits);
     let counts = count_blame(s, times);
@@ -602,12 +614,12 @@ fn blame_inside(s: &[u8]) -> Blame
 }
 
 // The field that broke the test by which a case is refused, or none. The length is asked first, so that the bytes behind it are there to read.
-pub fn find_blame(s: &[u8]) -> Blame
+pub fn find_blame(s: &[u8]) -> Option<Field>
     ensures { result ≡ blame_of s.now }
 {
     let long = case_length(s);
     if !field_ok(long) {
-        return Blame::Bad(long);
+        return Some(long);
     }
     blame_inside(s)
 }

@@ -6,7 +6,7 @@ use Rattle.facts.specs.Numbers.{seconds, price_of, moment_of}
 use Rattle.codes.specs.Codes.{agreement_of}
 use Rattle.words.specs.Names.{trade_words, refused_words, refused_case_words, end_words, case_length_words, head_length_words, head_kind_words, zero_words, side_words, opening_flag_words, expiry_flag_words, panel_flag_words, buyer_kind_words, seller_kind_words, filing_day_words, agreement_code_words, buyer_code_words, seller_code_words, execution_price_words, best_bid_words, best_offer_words, official_price_words, buyer_limit_words, seller_limit_words, agreed_price_words, differential_words, contracts_traded_words, bid_size_words, offer_size_words, execution_time_words, filing_time_words, agreement_made_words, acceptance_made_words, allowed_words, to_words, or_words, or_more_words, case_has_words, bid_is_words, offer_is_words, executed_at_words, execution_is_words, agreement_is_words, rule_refusal_words, bracket_words}
 use Rattle.words.specs.Pieces.{bytes_at, say, tell, found, blank}
-use Rattle.blame_lines.specs.Words.{FieldName, CaseLength, HeadLength, HeadKind, ZeroBytes, SideInError, OpeningFlag, ExpiryFlag, PanelFlag, BuyerKind, SellerKind, FilingDay, AgreementCode, BuyerCode, SellerCode, ExecutionPrice, BestBid, BestOffer, OfficialPrice, BuyerLimit, SellerLimit, AgreedPrice, Differential, ContractsTraded, BidSize, OfferSize, ExecutionTime, FilingTime, AgreementMade, AcceptanceMade, Measure, Plain, Counted, Money, Clocked, Lapsed, Lettered, Because, NoMatter, TheCase, TheBid, TheOffer, Executed, TheExecution, TheAgreement, Field, Blame, Sound, Bad, Value, Number, Count, Dollars, Time, Lapse, Letter, Terms, After, Piece}
+use Rattle.blame_lines.specs.Words.{FieldName, CaseLength, HeadLength, HeadKind, ZeroBytes, SideInError, OpeningFlag, ExpiryFlag, PanelFlag, BuyerKind, SellerKind, FilingDay, AgreementCode, BuyerCode, SellerCode, ExecutionPrice, BestBid, BestOffer, OfficialPrice, BuyerLimit, SellerLimit, AgreedPrice, Differential, ContractsTraded, BidSize, OfferSize, ExecutionTime, FilingTime, AgreementMade, AcceptanceMade, Measure, Plain, Counted, Money, Clocked, Lapsed, Lettered, Because, NoMatter, TheCase, TheBid, TheOffer, Executed, TheExecution, TheAgreement, Field, Blame, None, Some, Value, Number, Count, Dollars, Time, Lapse, Letter, Terms, Piece}
 
 abbrev pub name_phrase : FieldName → ℕ
 name_phrase CaseLength = case_length_words
@@ -43,7 +43,7 @@ name_phrase AcceptanceMade = acceptance_made_words
 
 -- what is no time of any day is told in seconds
 unfoldable pub timed : ℕ → Value
-timed n = pick (ltb n 360000) (Time (seconds n)) (Lapse (After (seconds n)))
+timed n = pick (ltb n 360000) (Time (seconds n)) (Lapse (Some (seconds n)))
 
 abbrev pub measured : Measure → ℕ → Value
 measured Plain n = Number n
@@ -120,5 +120,5 @@ field_rows s f = refused_head s f.test ∷ field_row s f ∷ []
 
 -- nothing is told of a case that is in order
 abbrev pub blame_rows : List ℕ → Blame → List (List Piece)
-blame_rows s Sound = []
-blame_rows s (Bad f) = field_rows s f
+blame_rows s None = []
+blame_rows s (Some f) = field_rows s f

@@ -8,8 +8,8 @@ ghost use Rattle.text.specs.Text.{laid_at};
 ghost use Rattle.words.specs.Rows.{rows_text};
 ghost use Rattle.blame_lines.specs.Lines.{name_phrase, timed, measured, bound, upper_piece, other_piece, other_upper_piece, price_in, cause_piece, because_piece, field_row, strange_row, refused_row, refused_head, field_rows, blame_rows};
 
-use blame::{Because, Blame, Field, FieldName, Measure};
-use facts::{Moment, Seconds};
+use blame::{Because, Field, FieldName, Measure};
+use facts::Seconds;
 use words::{Piece, Value};
 
 fn name_phrase(name: FieldName) -> u8
@@ -57,7 +57,7 @@ fn timed(n: u32) -> Value
     if n < 360000 {
         return Value::Time(Seconds(n));
     }
-    Value::Lapse(Moment::After(Seconds(n)))
+    Value::Lapse(Some(Seconds(n)))
 }
 
 fn measured(unit: Measure, n: u32) -> Value
@@ -254,12 +254,12 @@ fn add_field(out: &mut [u8], at: usize, s: &[u8], field: Field) -> usize
 }
 
 // The rows of a refused case; none of one that is in order.
-pub fn add_blame(out: &mut [u8], at: usize, s: &[u8], blame: Blame) -> usize
+pub fn add_blame(out: &mut [u8], at: usize, s: &[u8], blame: Option<Field>) -> usize
     requires { at + 2080 ≤ length out.old }
     ensures { (result ≡ at + length (rows_text (blame_rows s.now blame))) × (out.new ≡ laid_at at (rows_text (blame_rows s.now blame)) out.old) × (result ≤ at + 2080) }
 {
     match blame {
-        Blame::Sound => at,
-        Blame::Bad(field) => add_field(out, at, s, field),
+        None => at,
+        Some(field) => add_field(out, at, s, field),
     }
 }

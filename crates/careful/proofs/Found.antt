@@ -8,15 +8,15 @@ use borrow.Author.Tests.{ne_eqb}
 use Rattle.wire.proofs.Tests.{none_fails}
 use Rattle.forms.proofs.Heads.{has_88}
 use Rattle.refusals.specs.Tests.{length_ok, head_fault_of}
-use Rattle.careful.specs.Words.{Warning, Fine, Careful, Cautions}
+use Rattle.careful.specs.Words.{Warning, None, Some, Cautions}
 use Rattle.careful.specs.Careful.{warning_at, misleads, caution_at, no_cautions, cautions_in, cautions_of}
 
 module _ (s : List ℕ) (i : ℕ) {w : Warning} (e : w ≡ warning_at s i) where
-  pub told : misleads w ≡ true → Careful w ≡ caution_at s i
+  pub told : misleads w ≡ true → Some w ≡ caution_at s i
   unfolding caution_at
   told h = let k = simp e at h in simp (e, k)
 
-  pub untold : misleads w ≡ false → Fine ≡ caution_at s i
+  pub untold : misleads w ≡ false → None ≡ caution_at s i
   unfolding caution_at
   untold h = let k = simp e at h in simp k
 

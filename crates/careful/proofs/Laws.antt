@@ -16,7 +16,7 @@ use Rattle.facts.specs.Numbers.{mills}
 use Rattle.forms.specs.Heads.{pairs, is_length, known}
 use Rattle.specimen.specs.Good.{good_case}
 use Rattle.refusals.specs.Tests.{mills_ok, head_ok, head_fault_of}
-use Rattle.careful.specs.Words.{Warning, Caution, Fine, Careful, Cautions}
+use Rattle.careful.specs.Words.{Warning, Caution, None, Some, Cautions}
 use Rattle.careful.specs.Careful.{turned_at, distance, warning_at, nearer, misleads, caution_at, no_cautions, cautions_in, cautions_of, is_careful, any_caution}
 use Rattle.careful.proofs.Found.{of_case, of_none}
 
@@ -32,18 +32,18 @@ unmoved w e = simp (e, not_below, and-false)
 
 module _ (s : List ℕ) (i : ℕ) where
   -- a price that turned is the same
-  pub same_fine : turned_at s i ≡ number_at 4 s i → caution_at s i ≡ Fine
+  pub same_fine : turned_at s i ≡ number_at 4 s i → caution_at s i ≡ None
   unfolding caution_at warning_at
   same_fine e = simp (unmoved (warning_at s i) (ap mills e))
 
   -- the mark none
-  pub none_fine : number_at 4 s i ≡ 4294967295 → caution_at s i ≡ Fine
+  pub none_fine : number_at 4 s i ≡ 4294967295 → caution_at s i ≡ None
   unfolding caution_at misleads warning_at
   none_fine e = simp e
 
 -- ---- what a caution says
 
-picked : (t : Bool) (v w : Warning) → pick t (Careful v) Fine ≡ Careful w → (t ≡ true) × (w ≡ v)
+picked : (t : Bool) (v w : Warning) → pick t (Some v) None ≡ Some w → (t ≡ true) × (w ≡ v)
 picked true v w e = (refl, cc)
 picked false v w e = absurd (let z : ◌≡◌ {A = ℕ} 0 1 = cc in omega arith)
 
@@ -77,7 +77,7 @@ module _ (s : List ℕ) (i : ℕ) where
         nearer = ltb-true _ _ (simp e at near.1);
       }
 
-  pub told_truly : (w : Warning) → caution_at s i ≡ Careful w → Told s i w
+  pub told_truly : (w : Warning) → caution_at s i ≡ Some w → Told s i w
   unfolding caution_at
   told_truly w e =
       let p = picked (misleads (warning_at s i)) (warning_at s i) w e in holds_of w p.1 (ap misleads p.1 ∙ p.0)
@@ -96,12 +96,12 @@ every_case s h = sym (of_case s refl h)
 quiet : (a b c d e : Caution) → (is_careful a || is_careful b || is_careful c || is_careful d || is_careful e) ≡ false
     → record { bid = a; offer = b; official = c; buyer = d; seller = e } ≡ no_cautions
 unfolding no_cautions
-quiet Fine Fine Fine Fine Fine h = refl
-quiet (Careful w) b c d e h = absurd (true≢false h)
-quiet Fine (Careful w) c d e h = absurd (true≢false h)
-quiet Fine Fine (Careful w) d e h = absurd (true≢false h)
-quiet Fine Fine Fine (Careful w) e h = absurd (true≢false h)
-quiet Fine Fine Fine Fine (Careful w) h = absurd (true≢false h)
+quiet None None None None None h = refl
+quiet (Some w) b c d e h = absurd (true≢false h)
+quiet None (Some w) c d e h = absurd (true≢false h)
+quiet None None (Some w) d e h = absurd (true≢false h)
+quiet None None None (Some w) e h = absurd (true≢false h)
+quiet None None None None (Some w) h = absurd (true≢false h)
 
 pub none_told : (c : Cautions) → any_caution c ≡ false → c ≡ no_cautions
 unfolding any_caution
@@ -131,11 +131,11 @@ abbrev march : List ℕ
 march = stored (stored good_case 8 (bytes 4 1260)) 20 (0 ∷ 0 ∷ 5 ∷ 0 ∷ [])
 
 pub march_told : cautions_of march ≡ record {
-  bid = Careful (record { stands = mills 327680; turned = mills 1280; execution = mills 1260; at = 20 });
-  offer = Fine;
-  official = Fine;
-  buyer = Fine;
-  seller = Fine;
+  bid = Some (record { stands = mills 327680; turned = mills 1280; execution = mills 1260; at = 20 });
+  offer = None;
+  official = None;
+  buyer = None;
+  seller = None;
 }
 unfolding cautions_of cautions_in caution_at misleads nearer warning_at turned_at distance head_fault_of head_ok number_at is_length known pairs
 march_told = refl

@@ -5,7 +5,7 @@ use Rattle.wire.specs.Numbers.{joined, number_at}
 use Rattle.wire.specs.Tests.{pick}
 use Rattle.facts.specs.Numbers.{mills}
 use Rattle.refusals.specs.Tests.{mills_ok, head_fault_of}
-use Rattle.careful.specs.Words.{Warning, Caution, Fine, Careful, Cautions}
+use Rattle.careful.specs.Words.{Warning, Caution, None, Some, Cautions}
 
 -- ---- one price
 
@@ -36,12 +36,12 @@ unfoldable pub misleads : Warning → Bool
 misleads w = mills_ok w.stands && mills_ok w.turned && nearer w
 
 unfoldable pub caution_at : List ℕ → ℕ → Caution
-caution_at s i = pick (misleads (warning_at s i)) (Careful (warning_at s i)) Fine
+caution_at s i = pick (misleads (warning_at s i)) (Some (warning_at s i)) None
 
 -- ---- the five of a record
 
 unfoldable pub no_cautions : Cautions
-no_cautions = record { bid = Fine; offer = Fine; official = Fine; buyer = Fine; seller = Fine }
+no_cautions = record { bid = None; offer = None; official = None; buyer = None; seller = None }
 
 -- 20 best bid; 24 best offer; 40 official's price; 52 buyer's limit; 60 seller's limit (RULE R2.6)
 unfoldable pub cautions_in : List ℕ → Cautions
@@ -59,8 +59,8 @@ unfoldable pub cautions_of : List ℕ → Cautions
 cautions_of s = pick (eqb (head_fault_of s) 0) (cautions_in s) no_cautions
 
 abbrev pub is_careful : Caution → Bool
-is_careful Fine = false
-is_careful (Careful w) = true
+is_careful None = false
+is_careful (Some w) = true
 
 -- some price of the record is one to be careful of
 unfoldable pub any_caution : Cautions → Bool

@@ -18,20 +18,14 @@ pub struct Warning {
     pub at: u8,
 }
 
-#[derive(Clone, Copy)]
-pub enum Caution {
-    Fine,
-    Careful(Warning),
-}
-
 // One for each price that a record holds against its execution: the quotes, the official's price, the limits.
 #[derive(Clone, Copy)]
 pub struct Cautions {
-    pub bid: Caution,
-    pub offer: Caution,
-    pub official: Caution,
-    pub buyer: Caution,
-    pub seller: Caution,
+    pub bid: Option<Warning>,
+    pub offer: Option<Warning>,
+    pub official: Option<Warning>,
+    pub buyer: Option<Warning>,
+    pub seller: Option<Warning>,
 }
 
 // ---- one price
@@ -92,15 +86,15 @@ fn misleads(w: Warning) -> bool
     is_price(stands) & is_price(turned) & (is_price(execution) & (near < far))
 }
 
-fn caution_at(s: &[u8], at: u8) -> Caution
+fn caution_at(s: &[u8], at: u8) -> Option<Warning>
     requires { (88 ≤ length s.now) × (at ≤ 84) }
     ensures { result ≡ caution_at s.now at }
 {
     let w = warning_at(s, at);
     if misleads(w) {
-        return Caution::Careful(w);
+        return Some(w);
     }
-    Caution::Fine
+    None
 }
 
 // ---- the five of a record
@@ -109,11 +103,11 @@ fn no_cautions() -> Cautions
     ensures { result ≡ no_cautions }
 {
     Cautions {
-        bid: Caution::Fine,
-        offer: Caution::Fine,
-        official: Caution::Fine,
-        buyer: Caution::Fine,
-        seller: Caution::Fine,
+        bid: None,
+        offer: None,
+        official: None,
+        buyer: None,
+        seller: None,
     }
 }
 
@@ -145,12 +139,12 @@ pub fn find_cautions(s: &[u8]) -> Cautions
     no_cautions()
 }
 
-fn is_careful(c: Caution) -> bool
+fn is_careful(c: Option<Warning>) -> bool
     ensures { result ≡ is_careful c }
 {
     match c {
-        Caution::Fine => false,
-        Caution::Careful(_) => true,
+        None => false,
+        Some(_) => true,
     }
 }
 

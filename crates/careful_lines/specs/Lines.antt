@@ -2,20 +2,20 @@
 use Rattle.std.specs.Prelude.{ℕ, List, [], ◌∷◌, ◌++◌}
 use Rattle.words.specs.Names.{careful_bid_words, careful_offer_words, careful_official_words, careful_buyer_words, careful_seller_words, turned_words, nearer_words, end_words}
 use Rattle.words.specs.Pieces.{bytes_at, say, tell, found, blank}
-use Rattle.careful_lines.specs.Words.{At, Warning, Caution, Fine, Careful, Cautions, Dollars, Piece}
+use Rattle.careful_lines.specs.Words.{Some, Warning, Caution, None, Cautions, Dollars, Piece}
 
 -- the price as it stands, what its bytes are high byte first, and the execution that this is nearer to
 unfoldable pub warning_row : ℕ → Warning → List Piece
 warning_row phrase w =
-    found phrase (Dollars (At w.stands)) (bytes_at w.at 4)
-    ∷ tell turned_words (Dollars (At w.turned))
-    ∷ found nearer_words (Dollars (At w.execution)) (bytes_at 8 4)
+    found phrase (Dollars (Some w.stands)) (bytes_at w.at 4)
+    ∷ tell turned_words (Dollars (Some w.turned))
+    ∷ found nearer_words (Dollars (Some w.execution)) (bytes_at 8 4)
     ∷ say end_words
     ∷ blank ∷ blank ∷ blank ∷ blank ∷ blank ∷ blank ∷ []
 
 abbrev pub caution_rows : ℕ → Caution → List (List Piece)
-caution_rows phrase Fine = []
-caution_rows phrase (Careful w) = warning_row phrase w ∷ []
+caution_rows phrase None = []
+caution_rows phrase (Some w) = warning_row phrase w ∷ []
 
 unfoldable pub careful_rows : Cautions → List (List Piece)
 careful_rows c =

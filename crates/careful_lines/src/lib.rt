@@ -7,8 +7,8 @@ ghost use Rattle.text.specs.Text.{laid_at};
 ghost use Rattle.words.specs.Rows.{rows_text};
 ghost use Rattle.careful_lines.specs.Lines.{warning_row, caution_rows, careful_rows};
 
-use careful::{Caution, Cautions, Warning};
-use facts::{Mills, Price};
+use careful::{Cautions, Warning};
+use facts::Mills;
 use words::{Piece, Value};
 
 fn warning_row(phrase: u8, warning: Warning) -> [Piece; 10]
@@ -21,13 +21,13 @@ fn warning_row(phrase: u8, warning: Warning) -> [Piece; 10]
     [
         words::found(
             phrase,
-            Value::Dollars(Price::At(stands)),
+            Value::Dollars(Some(stands)),
             words::bytes_at(warning.at, 4),
         ),
-        words::told(words::TURNED, Value::Dollars(Price::At(turned))),
+        words::told(words::TURNED, Value::Dollars(Some(turned))),
         words::found(
             words::NEARER,
-            Value::Dollars(Price::At(execution)),
+            Value::Dollars(Some(execution)),
             words::bytes_at(8, 4),
         ),
         words::said(words::END),
@@ -40,13 +40,13 @@ fn warning_row(phrase: u8, warning: Warning) -> [Piece; 10]
     ]
 }
 
-fn add_caution(out: &mut [u8], at: usize, phrase: u8, caution: Caution) -> usize
+fn add_caution(out: &mut [u8], at: usize, phrase: u8, caution: Option<Warning>) -> usize
     requires { at + 1040 ≤ length out.old }
     ensures { (result ≡ at + length (rows_text (caution_rows phrase caution))) × (out.new ≡ laid_at at (rows_text (caution_rows phrase caution)) out.old) × (result ≤ at + 1040) }
 {
     match caution {
-        Caution::Fine => at,
-        Caution::Careful(warning) => words::add_row(out, at, warning_row(phrase, warning)),
+        None => at,
+        Some(warning) => words::add_row(out, at, warning_row(phrase, warning)),
     }
 }
 

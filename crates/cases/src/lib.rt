@@ -10,10 +10,7 @@ ghost use Rattle.forms.specs.Heads.{IsCase};
 ghost use Rattle.record.specs.Record.{facts_of};
 ghost use Rattle.cases.specs.Cases.{refusal_of, refused, reading_of, writing_of, Held};
 
-use facts::{
-    Agreement, Contracts, Day, Facts, Form, Kind, Market, Mills, Moment, Party, Price, Quote,
-    Request, Seconds, Settlement, Side, Trade,
-};
+use facts::{Agreement, Contracts, Day, Facts, Form, Kind, Market, Mills, Option<Mills>, Option<Seconds>, Party, Quote, Request, Seconds, Settlement, Side, Trade};
 
 // The facts where refusal is 0; otherwise the number of the first test that failed, beside fixed facts that nobody uses.
 #[derive(Clone, Copy)]
@@ -27,12 +24,12 @@ fn no_facts() -> Facts
     ensures { result ≡ facts_of (replicate 88 0) }
 {
     let quote = Quote {
-        price: Price::At(Mills(0)),
+        price: Some(Mills(0)),
         size: Contracts(0),
     };
     let party = Party {
         code: [0u8; 4],
-        limit: Price::At(Mills(0)),
+        limit: Some(Mills(0)),
         kind: Kind::Other,
     };
     Facts {
@@ -46,7 +43,7 @@ fn no_facts() -> Facts
         market: Market {
             bid: quote,
             offer: quote,
-            official: Price::At(Mills(0)),
+            official: Some(Mills(0)),
         },
         request: Request {
             side: Side::Sell,
@@ -60,9 +57,9 @@ fn no_facts() -> Facts
         seller: party,
         settlement: Settlement {
             agreement: Agreement::NotMade,
-            agreed: Price::At(Mills(0)),
+            agreed: Some(Mills(0)),
             made: Seconds(0),
-            accepted: Moment::After(Seconds(0)),
+            accepted: Some(Seconds(0)),
         },
     }
 }

@@ -21,7 +21,7 @@ use Rattle.agreement.specs.Agreed.{in_time, heeded_of}
 use Rattle.act.specs.Limits.{catastrophic_stopped}
 use Rattle.act.specs.Act.{catastrophic_act, act_of}
 use Rattle.act.specs.Tested.{tested_at, Alike}
-use Rattle.ruling.specs.Words.{Price, Never, Side, Buy, Facts}
+use Rattle.ruling.specs.Words.{Price, None, Side, Buy, Facts}
 use Rattle.ruling.specs.Ruling.{ruled_at, ruled_on, ruled_by, ruling_of}
 use Rattle.alike.specs.Tested.{tested_in, altered_facts}
 use Rattle.alike.proofs.Rulings as blind
@@ -49,7 +49,7 @@ same_ruling = blind.same_ruling
 
 -- ---- neither premise nor conclusion is empty: a sell at 6.000 on the catastrophic way, whose 7.000 the Customer buyer's limit of 6.500 stops
 abbrev stopped : Facts
-stopped = to_customer 12000 6000 Never
+stopped = to_customer 12000 6000 None
 
 -- The premise holds of a pair that differs: 7.000 is outside 6.500 and outside 6.600.
 pub untold_pair : Untold stopped Buy (at 6600)

@@ -6,7 +6,7 @@ use Rattle.wire.specs.Tests.{in_range}
 use Rattle.facts.specs.Numbers.{mills, contracts, seconds, price_number, price_of, moment_of}
 use Rattle.codes.specs.Codes.{side_of, kind_of, day_of, agreement_of, flag_of}
 use Rattle.forms.specs.Words.{One}
-use Rattle.ruling.specs.Words.{Price, At, None, Moment, After, Never, Side, Buy, Sell, Kind, Customer, MarketMaker, Day, TradeDate, Later, NotMade, Quote, Market, Facts}
+use Rattle.ruling.specs.Words.{Price, Some, None, Moment, Side, Buy, Sell, Kind, Customer, MarketMaker, Day, TradeDate, Later, NotMade, Quote, Market, Facts}
 use Rattle.ruling.specs.declared.Counts.{Counts}
 use Rattle.forms.specs.Heads.{pairs, is_length, known}
 use Rattle.forms.specs.Forms.{form_of}
@@ -26,7 +26,7 @@ use Rattle.answer.specs.Answer.{case_refusal_of, answer_of, case_of}
 
 -- ---- the cases: 10 contracts executed at 9:30:00; the market shows one quote for 20, on the side that is looked at, or none
 abbrev quoted : Price → Quote
-quoted (At p) = record { price = At p; size = contracts 20 }
+quoted (Some p) = record { price = Some p; size = contracts 20 }
 quoted None = record { price = None; size = contracts 0 }
 
 abbrev market : Side → Price → Market
@@ -47,11 +47,11 @@ case side quote execution buyer day after limit accepted =
     }
 
 abbrev pub at : ℕ → Price
-at n = At (mills n)
+at n = Some (mills n)
 
 -- two Market Makers, filed on day 0 after so many seconds
 abbrev filed : ℕ → Side → ℕ → ℕ → Facts
-filed after side quote execution = case side (at quote) execution MarketMaker TradeDate after None Never
+filed after side quote execution = case side (at quote) execution MarketMaker TradeDate after None None
 
 abbrev pub buy : ℕ → ℕ → Facts
 buy offer execution = filed 120 Buy offer execution
@@ -65,7 +65,7 @@ to_customer bid execution accepted = case Sell (at bid) execution Customer Trade
 
 -- no quote and no official's price
 abbrev unquoted : Day → Facts
-unquoted day = case Buy None 2000 MarketMaker day 120 None Never
+unquoted day = case Buy None 2000 MarketMaker day 120 None None
 
 -- ---- an edge: a case, and what the desk makes of it
 record Edge : Type 0 where
@@ -135,9 +135,9 @@ edges =
     -- catastrophic way, sell, bid 12.000 at 7.000: the new price is 7.000
     ∷ becomes (filed 1201 Sell 12000 7000) 8 12000 7000
     -- the same at 6.000, a Customer buyer's limit 6.500: nullified; accepted after 1,800 s adjusted to 7.000; after 1,801 s nullified
-    ∷ undone (to_customer 12000 6000 Never) 12 12000
-    ∷ becomes (to_customer 12000 6000 (After (seconds 1800))) 9 12000 7000
-    ∷ undone (to_customer 12000 6000 (After (seconds 1801))) 12 12000
+    ∷ undone (to_customer 12000 6000 None) 12 12000
+    ∷ becomes (to_customer 12000 6000 (Some (seconds 1800))) 9 12000 7000
+    ∷ undone (to_customer 12000 6000 (Some (seconds 1801))) 12 12000
     -- no quote and no official's price: waiting (14) where a way is open, late (2) where none is
     ∷ edge (unquoted TradeDate) 3 14 0 None None (all 0 0 10)
     ∷ edge (unquoted Later) 0 2 0 None None (all 0 0 10)

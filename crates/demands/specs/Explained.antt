@@ -1,6 +1,6 @@
 -- What is proved of explanations (RULE R17): every byte string has one, and what it tells is so. First of the definitions, then, as "so every call",
 -- what the promises of the functions allow.
-use Rattle.std.specs.Prelude.{ℕ, ◌-◌, ◌≤◌, ◌<◌, ◌≡◌, Bool, true, false, List, ◌++◌, length, take, leb, eqb}
+use Rattle.std.specs.Prelude.{ℕ, ◌-◌, ◌≤◌, ◌<◌, ◌≡◌, Bool, true, false, List, ◌++◌, length, take, leb, eqb, Some, None}
 use Rattle.std.proofs.Common.{sym, ap, ◌∙◌}
 use contract.Lifetimes.{Lfts}
 use Rattle.std.specs.Borrow.{Bor, MutBor}
@@ -19,7 +19,7 @@ use Rattle.figures.specs.Figures.{figures_of}
 use Rattle.sheet.specs.Sheet.{case_at, cases_in, ruled_in, whole_cases}
 use Rattle.lines.specs.Lines.{end_line, sheet_line}
 use Rattle.words.specs.Rows.{rows_text}
-use Rattle.steps.specs.Words.{Mills, Contracts, At, None, Side, Kind, Seconds, Request, Form, Market, Settlement, Facts, Way, Quoted, Official, Source, Found, Missing}
+use Rattle.steps.specs.Words.{Mills, Contracts, Some, None, Side, Kind, Seconds, Request, Form, Market, Settlement, Facts, Way, Quoted, Official, Source}
 use Rattle.steps.specs.declared.Steps.{Steps}
 use Rattle.steps.specs.declared.Judged.{Judged}
 use Rattle.steps.specs.declared.Reached.TheVariants.{Priced}
@@ -35,13 +35,11 @@ use Rattle.told.specs.Words.{Figures}
 use Rattle.told.specs.Stands.{EachStands}
 use Rattle.told.proofs as told
 use Rattle.blame.specs.declared.Field.{Field}
-use Rattle.blame.specs.declared.Blame.TheVariants.{Sound, Bad}
 use Rattle.blame.specs.Fields.{field_ok, fields_of, blame_of, number_of}
 use Rattle.blame.proofs.Order.{In, Stands}
 use Rattle.blame.proofs as blame
 use Rattle.blame_lines.specs.Lines.{blame_rows}
 use Rattle.careful.specs.declared.Warning.{Warning}
-use Rattle.careful.specs.declared.Caution.TheVariants.{Fine, Careful}
 use Rattle.careful.specs.declared.Cautions.{Cautions}
 use Rattle.careful.specs.Careful.{turned_at, caution_at, no_cautions, cautions_in, cautions_of, any_caution}
 use Rattle.careful.proofs.Laws.{Told}
@@ -49,7 +47,7 @@ use Rattle.careful.proofs as careful
 use Rattle.careful_lines.specs.Lines.{careful_rows}
 use Rattle.warnings.specs.Warned.{warned_text, warned_case, warned_piece, warnings_of}
 use Rattle.warnings.proofs as warnings
-use Rattle.explanation.specs.declared.Wanted.{Wanted}
+use Rattle.explanation.specs.Words.{Wanted}
 use Rattle.explanation.specs.Explained.{told_rows, explained_rows, explained_of}
 use Rattle.explanation.specs.Pieces.{desk_alone, wanted, indexed, case_piece, explained_piece, explanation_of}
 use Rattle.explanation.proofs as explanation
@@ -67,7 +65,7 @@ pub way_tried : (executed : Seconds) (q : Request) (kind : Kind) → open_of (tr
 way_tried = steps.Made.way_tried
 
 -- Where the steps came to a TP, it is the ruling's (RULE R17.6).
-pub tp_told : (s : Steps) (j : Judged) → s.reached ≡ Priced j → (ruling_from s).tp ≡ Found j.source
+pub tp_told : (s : Steps) (j : Judged) → s.reached ≡ Priced j → (ruling_from s).tp ≡ Some j.source
 tp_told = steps.Made.tp_told
 
 -- Head and contracts are told from the ruling's own figures (RULE R17.4, R17.10).
@@ -96,14 +94,14 @@ explained_stand = why.explained_stand
 -- A quote's price and size are those of the quote on the side in error; an official's price is the official's; where there is no TP the official gave none
 -- (RULE R17.6).
 module _ (form : Form) (side : Side) (m : Market) where
-  pub quoted_told : (s : Source) (n : Contracts) → theory_of form side m ≡ Found s → s.origin ≡ Quoted n
-      → ((quote_for side m).price ≡ At s.price) × ((quote_for side m).size ≡ n)
+  pub quoted_told : (s : Source) (n : Contracts) → theory_of form side m ≡ Some s → s.origin ≡ Quoted n
+      → ((quote_for side m).price ≡ Some s.price) × ((quote_for side m).size ≡ n)
   quoted_told = steps.Theory.quoted_told form side m
 
-  pub official_told : (s : Source) → theory_of form side m ≡ Found s → s.origin ≡ Official → m.official ≡ At s.price
+  pub official_told : (s : Source) → theory_of form side m ≡ Some s → s.origin ≡ Official → m.official ≡ Some s.price
   official_told = steps.Theory.official_told form side m
 
-  pub no_price_told : theory_of form side m ≡ Missing → m.official ≡ None
+  pub no_price_told : theory_of form side m ≡ None → m.official ≡ None
   no_price_told = steps.Theory.none_told form side m
 
   -- Quotes are told as wide exactly where TP passed them over as too wide.
@@ -135,14 +133,14 @@ ignored_why_lem = steps.True.ignored_why_lem
 pub blamed_number : (s : List ℕ) → number_of (blame_of s) ≡ refusal_of s
 blamed_number = blame.Numbers.blamed_number
 
-pub told_number : (s : List ℕ) (f : Field) → blame_of s ≡ Bad f → f.test ≡ refusal_of s
+pub told_number : (s : List ℕ) (f : Field) → blame_of s ≡ Some f → f.test ≡ refusal_of s
 told_number = blame.Numbers.told_number
 
 -- None is blamed exactly where the case is accepted.
-pub sound_accepted : (s : List ℕ) → (blame_of s ≡ Sound → refusal_of s ≡ 0) × (refusal_of s ≡ 0 → blame_of s ≡ Sound)
+pub sound_accepted : (s : List ℕ) → (blame_of s ≡ None → refusal_of s ≡ 0) × (refusal_of s ≡ 0 → blame_of s ≡ None)
 sound_accepted s = (blame.Numbers.sound_accepted s, blame.Order.accepted_sound s)
 
-module _ (s : List ℕ) (f : Field) (h : blame_of s ≡ Bad f) where
+module _ (s : List ℕ) (f : Field) (h : blame_of s ≡ Some f) where
   -- It is one of the record's fields, and out of its bounds.
   pub told_bad : In f (fields_of s) × (field_ok f ≡ false)
   told_bad = blame.Order.told_bad s f h
@@ -159,15 +157,15 @@ module _ (s : List ℕ) (f : Field) (h : blame_of s ≡ Bad f) where
 
 -- A price that reads the same both ways has no caution, nor has none.
 module _ (s : List ℕ) (i : ℕ) where
-  pub same_fine : turned_at s i ≡ number_at 4 s i → caution_at s i ≡ Fine
+  pub same_fine : turned_at s i ≡ number_at 4 s i → caution_at s i ≡ None
   same_fine = careful.Laws.same_fine s i
 
-  pub none_fine : number_at 4 s i ≡ 4294967295 → caution_at s i ≡ Fine
+  pub none_fine : number_at 4 s i ≡ 4294967295 → caution_at s i ≡ None
   none_fine = careful.Laws.none_fine s i
 
   -- What a caution tells is so: the price stands at its place, the other is the one there turned, both and the execution are prices, and the turned one is nearer
   -- to the execution.
-  pub told_truly : (w : Warning) → caution_at s i ≡ Careful w → Told s i w
+  pub told_truly : (w : Warning) → caution_at s i ≡ Some w → Told s i w
   told_truly = careful.Laws.told_truly s i
 
 -- Bytes refused with 1 or 2 have no caution; all others are asked for their five prices, whatever a later test says.

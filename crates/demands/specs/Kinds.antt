@@ -8,7 +8,7 @@ use Rattle.std.specs.Borrow.{Bor, MutBor}
 use Rattle.wire.specs.Numbers.{AreBytes, number_at}
 use Rattle.wire.proofs.Tests.{range_ends}
 use Rattle.facts.specs.Numbers.{mills}
-use Rattle.forms.specs.Words.{Mills, At, None, Form, One, Two}
+use Rattle.forms.specs.Words.{Mills, Some, None, Form, One, Two}
 use Rattle.forms.specs.Heads.{known, IsCase}
 use Rattle.forms.specs.Forms.{form_length, form_kind, differential_of, form_of}
 use Rattle.forms.proofs.Heads as forms
@@ -48,7 +48,7 @@ use Rattle.demands.specs.Demand2.{Said}
 pub kind_one : (form_length One ≡ 88) × (form_kind One ≡ 1) × (differential_of One ≡ None)
 kind_one = (refl, refl, refl)
 
-pub kind_two : (d : Mills) → (form_length (Two d) ≡ 92) × (form_kind (Two d) ≡ 2) × (differential_of (Two d) ≡ At d)
+pub kind_two : (d : Mills) → (form_length (Two d) ≡ 92) × (form_kind (Two d) ≡ 2) × (differential_of (Two d) ≡ Some d)
 kind_two d = (refl, refl, refl)
 
 -- Every form has a pair of length and kind that there is, and every case has length and kind of its form at its head, and its length.
@@ -77,9 +77,9 @@ pub record Apart (form : Form) (m : Market) : Type 0 where
   pub differential : Mills
   pub bid : Mills
   pub offer : Mills
-  pub kind : differential_of form ≡ At differential
-  pub bidden : m.bid.price ≡ At bid
-  pub offered : m.offer.price ≡ At offer
+  pub kind : differential_of form ≡ Some differential
+  pub bidden : m.bid.price ≡ Some bid
+  pub offered : m.offer.price ≡ Some offer
   pub far : bid.0 + 2 * differential.0 ≤ offer.0
 
 pub wide_exactly : (form : Form) (m : Market) → Exactly (too_wide form m ≡ true) (Apart form m)
@@ -90,7 +90,7 @@ wide_exactly form m = (
 )
 
 -- A crossed market, the bid above the offer, is not wide; nor is one of which a quote is none, whatever the other.
-pub crossed : (form : Form) (m : Market) (bid offer : Mills) → m.bid.price ≡ At bid → m.offer.price ≡ At offer → offer.0 < bid.0 → too_wide form m ≡ false
+pub crossed : (form : Form) (m : Market) (bid offer : Mills) → m.bid.price ≡ Some bid → m.offer.price ≡ Some offer → offer.0 < bid.0 → too_wide form m ≡ false
 crossed form m bid offer b o h = rw (b, o) (width.crossed_narrow (differential_of form) bid offer h)
 
 pub bid_none : (form : Form) (m : Market) → m.bid.price ≡ None → too_wide form m ≡ false
@@ -187,6 +187,6 @@ pub differential_range : (f : Facts) (d : Mills) → fault_of f ≡ 0 → f.form
 differential_range f d e form = range_ends 1 9999999 d.0 (rw form at (sound f e).differential)
 
 -- So a locked market, the offer at the bid, is not wide either.
-pub locked : (f : Facts) (d bid offer : Mills) → fault_of f ≡ 0 → f.form ≡ Two d → f.market.bid.price ≡ At bid → f.market.offer.price ≡ At offer
+pub locked : (f : Facts) (d bid offer : Mills) → fault_of f ≡ 0 → f.form ≡ Two d → f.market.bid.price ≡ Some bid → f.market.offer.price ≡ Some offer
     → bid.0 ≡ offer.0 → too_wide f.form f.market ≡ false
 locked f d bid offer e form b o same = rw (form, b, o) (width.near d bid offer (let r = differential_range f d e form in omega arith))

@@ -1,14 +1,13 @@
 -- The four laws the counter relies on (RULE R12.1 to R12.4), then three more. Where a law asks for accepted facts, they pass the tests 4 to 9
 -- (`fault_of f ≡ 0`).
-use Rattle.std.specs.Prelude.{ℕ, ◌≤◌, ◌≡◌, true}
+use Rattle.std.specs.Prelude.{ℕ, ◌≤◌, ◌≡◌, true, Some, None}
 use Rattle.std.proofs.Common.{le_trans, lit≤, leb-true}
 use mathlib.Core.List.{List, Permᴰ}
 use Rattle.facts.specs.declared.Mills.{Mills}
 use Rattle.facts.specs.declared.Side.{Side}
 use Rattle.facts.specs.declared.Facts.{Facts}
-use Rattle.facts.specs.declared.Moment.{Moment}
-use Rattle.facts.specs.declared.Price.{Price}
-use Rattle.facts.specs.declared.Price.TheVariants.{At, None}
+use Rattle.facts.specs.Words.{Moment}
+use Rattle.facts.specs.Words.{Price}
 use Rattle.refusals.specs.Tests.{price_ok, fault_of}
 use Rattle.round_trips.proofs.Again.{sound}
 use Rattle.bands.specs.Table.{band_of}
@@ -61,7 +60,7 @@ stays_priced f e =
     ruling.stays_priced f 9999999 (leb-true _ 9999999 s.price) (up_to_lem f.market.bid.price s.bid) (up_to_lem f.market.offer.price s.offer)
     (up_to_lem f.market.official s.official) (up_to_lem f.settlement.agreed s.agreed) where
       up_to_lem : (p : Price) → price_ok p ≡ true → up_to 9999999 p ≡ true
-      up_to_lem (At m) h = h
+      up_to_lem (Some m) h = h
       up_to_lem None h = h
 
 -- Every ruling has the outcome of its reason: 1 to 5 no relief, 6 to 10 adjusted, 11 to 13 nullified, 14 waiting.

@@ -1,9 +1,8 @@
 -- The lookup and the filling are not empty (RULE R3.28, R16.16, R16.22): worked cases, of which the expected answers were found by hand. Unless said
 -- the trade is at second 30. By computation.
-use Rattle.std.specs.Prelude.{ℕ, ◌≡◌, refl, List, [], ◌∷◌, ◌++◌}
+use Rattle.std.specs.Prelude.{ℕ, ◌≡◌, refl, List, [], ◌∷◌, ◌++◌, Some}
 use Rattle.wire.specs.Numbers.{bytes, stored, number_at}
 use Rattle.wire.specs.Tests.{in_range}
-use Rattle.facts.specs.declared.Price.TheVariants.{At}
 use Rattle.facts.specs.declared.Quote.{Quote}
 use Rattle.facts.specs.Numbers.{mills, contracts, price_of, moment_of}
 use Rattle.codes.specs.Codes.{side_of, kind_of, day_of, agreement_of, flag_of}
@@ -33,7 +32,7 @@ abbrev none : ℕ
 none = 4294967295
 
 abbrev side : ℕ → ℕ → Quote
-side p n = record { price = At (mills p); size = contracts n }
+side p n = record { price = Some (mills p); size = contracts n }
 
 abbrev found : Quote → Quote → Found
 found bid offer = record { refusal = 0; bid = bid; offer = offer }

@@ -1,12 +1,11 @@
 -- The best bid and offer of the exchanges' quotes (RULE R16.1 to R16.9, R16.13): what the quotes alone decide, what that does not depend on, and what is
 -- printed of it. What a lookup answers, which brings the number of quotes before the trade, stands in Counted.
-use Rattle.std.specs.Prelude.{ℕ, ◌+◌, ◌≤◌, min, ◌≡◌, ◌⊎◌, List, ◌++◌, length, ltb}
+use Rattle.std.specs.Prelude.{ℕ, ◌+◌, ◌≤◌, min, ◌≡◌, ◌⊎◌, List, ◌++◌, length, ltb, Some}
 use Rattle.std.proofs.Common.{sym, ◌∙◌, ⊎_elim}
 use contract.Lifetimes.{Lfts}
 use Rattle.std.specs.Borrow.{Bor, MutBor}
 use Rattle.facts.specs.declared.Mills.{Mills}
-use Rattle.facts.specs.declared.Price.{Price}
-use Rattle.facts.specs.declared.Price.TheVariants.{At}
+use Rattle.facts.specs.Words.{Price}
 use Rattle.halves.specs.declared.Half.{Half}
 use Rattle.halves.specs.declared.Half.TheVariants.{Bid, Offer}
 use Rattle.quotes.specs.declared.Posted.{Posted}
@@ -14,14 +13,12 @@ use Rattle.quotes.specs.Quotes.{posted_in, quote_tests, quotes_refusal_of}
 use Rattle.quotes.proofs as quotes
 use Rattle.halves.specs.Halves.{same}
 use Rattle.best.specs.declared.Found.{Found}
-use Rattle.best.specs.declared.Last.{Last}
-use Rattle.best.specs.declared.Last.TheVariants.{Sent}
+use Rattle.best.specs.Words.{Last}
 use Rattle.earlier.specs.Earlier.{earlier}
 use Rattle.best.specs.Lasts.{last_of, lasts}
 use Rattle.best.specs.Best.{said_by, best_of}
 use Rattle.best.specs.Found.{best_in, found_in, refused, found_of}
 use Rattle.best.proofs as best
-use Rattle.spelling.specs.declared.Typed.TheVariants.{Seconds}
 use Rattle.spelling.specs.Times.{time_in, time_text}
 use Rattle.spelling.proofs as spelling
 use Rattle.standing.specs.Standing.{sayer_of, sizes_shown, best_text}
@@ -59,7 +56,7 @@ said h s t e = (said_by h (last_of e (earlier t (posted_in s)))).price
 
 abbrev pub BestOfSixteen : Half → List ℕ → ℕ → Price → Type 0
 BestOfSixteen h s t best =
-    ((e : ℕ) → 1 ≤ e → e ≤ 16 → NoBetter h (said h s t e) best) × ((m : Mills) → best ≡ At m → (e : ℕ) × (1 ≤ e) × (e ≤ 16) × (said h s t e ≡ At m))
+    ((e : ℕ) → 1 ≤ e → e ≤ 16 → NoBetter h (said h s t e) best) × ((m : Mills) → best ≡ Some m → (e : ℕ) × (1 ≤ e) × (e ≤ 16) × (said h s t e ≡ Some m))
 
 abbrev pub Best : List ℕ → ℕ → Found → Type 0
 Best s t f = BestOfSixteen Bid s t f.bid.price × BestOfSixteen Offer s t f.offer.price
@@ -116,11 +113,11 @@ pub size_shown : (h : Half) (qs : List Posted) → (best_in h qs).size.0 ≡ min
 size_shown = standing.Sums.size_shown
 
 -- The quote that is shown for an exchange is that exchange's.
-pub own_quote : (e : ℕ) (qs : List Posted) (q : Posted) → last_of e qs ≡ Sent q → q.exchange ≡ e
+pub own_quote : (e : ℕ) (qs : List Posted) (q : Posted) → last_of e qs ≡ Some q → q.exchange ≡ e
 own_quote = standing.Lasting.own_quote
 
 -- A time of day, spelt as it is shown and typed again, is the same second.
-pub time_back : (n : ℕ) → n ≤ 86399 → time_in (time_text n) ≡ Seconds n
+pub time_back : (n : ℕ) → n ≤ 86399 → time_in (time_text n) ≡ Some n
 time_back = spelling.Times.time_back
 
 -- No text is longer than the buffer of 4,096 bytes.

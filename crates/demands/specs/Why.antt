@@ -1,6 +1,6 @@
 -- Why demand 1, the law of reordering and what is said of explanations hold: what a row of tests gives back, and what the definitions make of it. Nothing is promised here.
 use Prim.Native.Nat.{ℕ, zero, suc, ◌+◌, ◌-◌, ◌*◌, ◌≤◌, ◌<◌, zero-le}
-use Rattle.std.specs.Prelude.{◌≡◌, Bool, take, drop}
+use Rattle.std.specs.Prelude.{◌≡◌, Bool, take, drop, Some, None}
 use Rattle.std.proofs.Math.Path.{refl, sym, ap, subst}
 use Rattle.std.proofs.Common.{◌∙◌, length-append, take_at}
 use Rattle.std.proofs.Math.Bool.{true, false}
@@ -46,8 +46,7 @@ use Rattle.act.specs.Minimum.{minimum_of}
 use Rattle.steps.specs.Found.{gap_of, error_of}
 use Rattle.steps.proofs.True as shown
 use Rattle.words.specs.Rows.{rows_text}
-use Rattle.careful.specs.declared.Caution.{Caution}
-use Rattle.careful.specs.declared.Caution.TheVariants.{Fine, Careful}
+use Rattle.careful.specs.Words.{Caution}
 use Rattle.careful.specs.Careful.{caution_at, no_cautions, cautions_in, cautions_of}
 use Rattle.careful.proofs.Found.{whole as careful-whole}
 use Rattle.careful.proofs.Laws.{told_truly, only_cases, every_case}
@@ -57,12 +56,11 @@ use Rattle.told.specs.Stands.{EachStands}
 use Rattle.told.proofs.Rows.{rows_and}
 use Rattle.told.proofs.Told.{told_stand}
 use Rattle.words.specs.Names.{careful_bid_words, careful_offer_words, careful_official_words, careful_buyer_words, careful_seller_words}
-use Rattle.explanation.specs.declared.Wanted.{Wanted}
+use Rattle.explanation.specs.Words.{Wanted}
 use Rattle.explanation.specs.Explained.{told_rows, explained_rows, explained_of}
 use Rattle.explanation.specs.Pieces.{desk_alone, case_piece, explained_piece, explanation_of}
 use Rattle.explanation.proofs.Told.{told_ruled, whole_piece, refused_piece_lem, pieces_whole}
 use Rattle.facts.specs.declared.Mills.{Mills}
-use Rattle.facts.specs.declared.Price.TheVariants.{At}
 use Rattle.halves.specs.declared.Half.{Half}
 use Rattle.quotes.specs.declared.Posted.{Posted}
 use Rattle.best.specs.Lasts.{last_of}
@@ -298,7 +296,7 @@ module _ (q s : List ℕ) where
 -- ---- the best of the sixteen, either half
 pub best_of_sixteen : (h : Half) (qs : List Posted)
     → ((e : ℕ) → 1 ≤ e → e ≤ 16 → NoBetter h (said_by h (last_of e qs)).price (best_in h qs).price)
-    × ((m : Mills) → (best_in h qs).price ≡ At m → (e : ℕ) × (1 ≤ e) × (e ≤ 16) × ((said_by h (last_of e qs)).price ≡ At m))
+    × ((m : Mills) → (best_in h qs).price ≡ Some m → (e : ℕ) × (1 ≤ e) × (e ≤ 16) × ((said_by h (last_of e qs)).price ≡ Some m))
 unfolding best_of
 best_of_sixteen h qs = (no_better_said h qs, is_one h qs)
 
@@ -341,8 +339,8 @@ module _ (s : List ℕ) (want : Wanted) where
 -- ---- what is told with a place stands there: of the careful lines, and so of the whole explanation of an accepted case
 caution_stands : (s : List ℕ) (phrase i : ℕ) → i + 4 ≤ length s → 8 + 4 ≤ length s → (c : Caution) → caution_at s i ≡ c → EachStands s (caution_rows phrase c)
 unfolding warning_row
-caution_stands s phrase i fits far Fine e = tt
-caution_stands s phrase i fits far (Careful w) e =
+caution_stands s phrase i fits far None e = tt
+caution_stands s phrase i fits far (Some w) e =
     let t = told_truly s i w e in
     (((rw t.place fits, rw t.place (sym t.stands)), (tt, ((far, sym t.execution), (tt, (tt, (tt, (tt, (tt, (tt, (tt, tt)))))))))), tt)
 

@@ -7,7 +7,6 @@ ghost use Rattle.std.specs.Prelude.{IsTrue};
 ghost use Rattle.std.specs.Io.KnownBytes.{Appends, IsAtEnd};
 ghost use Rattle.explanation.specs.Pieces.{explanation_of};
 
-use explanation::Wanted;
 use std::fs::File;
 use std::io::{Read, Write};
 use std::rt::Files;
@@ -22,7 +21,7 @@ fn ended<R: Read>(input: &mut R) -> bool
 }
 
 // Reads which cases are asked for, if it can be read and has no bytes or four.
-fn read_wanted<R: Files>(rt: &R) -> Option<Wanted> {
+fn read_wanted<R: Files>(rt: &R) -> Option<Option<u32>> {
     let mut input = File::open(rt, streams::THIRD).ok()?;
     let mut trade = [0u8; 4];
     let brought = streams::read_full(&mut input, &mut trade);
@@ -30,14 +29,14 @@ fn read_wanted<R: Files>(rt: &R) -> Option<Wanted> {
         return None;
     }
     if brought == 4 {
-        Some(Wanted::Trade(wire::read_u32(&trade, 0)))
+        Some(Some(wire::read_u32(&trade, 0)))
     } else {
-        Some(Wanted::Any)
+        Some(None)
     }
 }
 
 // Writes the pieces. Whether they could be written.
-fn tell<W: Write>(output: &mut W, sheet: &[u8], want: Wanted) -> bool
+fn tell<W: Write>(output: &mut W, sheet: &[u8], want: Option<u32>) -> bool
     ensures { IsTrue result → Appends (W.contents output.old) (W.contents output.new) (explanation_of sheet.now want) }
 {
     let mut text = [0u8; 20480];

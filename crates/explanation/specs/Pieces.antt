@@ -7,7 +7,7 @@ use Rattle.text.specs.Text.{letters}
 use Rattle.words.specs.Rows.{index_text}
 use Rattle.sheet.specs.Sheet.{case_at, cases_in, whole_cases}
 use Rattle.report.specs.Pieces.{piece_of, pieces_in}
-use Rattle.explanation.specs.Words.{Wanted, Any, Trade}
+use Rattle.explanation.specs.Words.{Wanted, None, Some}
 use Rattle.explanation.specs.Explained.{explained_of}
 
 -- it is for the desk, and no party sees it
@@ -16,8 +16,8 @@ desk_alone = letters "FOR THE DESK ALONE: limits are shown" ++ (10 ∷ [])
 
 -- every case, or those with a trade number
 abbrev pub wanted : Wanted → List ℕ → Bool
-wanted Any c = true
-wanted (Trade n) c = eqb (number_at 4 c 4) n
+wanted None c = true
+wanted (Some n) c = eqb (number_at 4 c 4) n
 
 -- a case with its index before it; nothing of one that is not asked for
 abbrev pub indexed : ℕ → List ℕ → List ℕ

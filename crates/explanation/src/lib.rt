@@ -12,13 +12,6 @@ ghost use Rattle.report.specs.Pieces.{piece_of, pieces_in};
 ghost use Rattle.explanation.specs.Explained.{told_rows, explained_rows, explained_of};
 ghost use Rattle.explanation.specs.Pieces.{desk_alone, wanted, indexed, case_piece, explain_piece, explained_piece};
 
-// Which cases are asked for: every one, or those with a trade number.
-#[derive(Clone, Copy)]
-pub enum Wanted {
-    Any,
-    Trade(u32),
-}
-
 // ---- a case
 
 fn add_told(out: &mut [u8], at: usize, case: &[u8]) -> usize
@@ -53,13 +46,13 @@ pub fn explain_case(case: &[u8], out: &mut [u8; 20480]) -> usize
 
 // ---- a sheet, piece by piece: nothing is carried from one call to the next
 
-fn is_wanted(case: &[u8], want: Wanted) -> bool
+fn is_wanted(case: &[u8], want: Option<u32>) -> bool
     requires { IsCase case.now }
     ensures { result ≡ wanted want case.now }
 {
     match want {
-        Wanted::Any => true,
-        Wanted::Trade(n) => wire::read_u32(case, 4) == n,
+        None => true,
+        Some(n) => wire::read_u32(case, 4) == n,
     }
 }
 
@@ -71,7 +64,7 @@ fn put_indexed(case: &[u8], index: u32, out: &mut [u8]) -> usize
     add_case(out, next, case)
 }
 
-fn put_case(case: &[u8], index: u32, want: Wanted, out: &mut [u8]) -> usize
+fn put_case(case: &[u8], index: u32, want: Option<u32>, out: &mut [u8]) -> usize
     requires { IsCase case.now × (20480 ≤ length out.old) }
     ensures { (result ≡ length (case_piece want index case.now)) × (out.new ≡ laid (case_piece want index case.now) out.old) × (result ≤ 20480) }
 {
@@ -92,7 +85,7 @@ fn put_report(sheet: &[u8], k: usize, out: &mut [u8]) -> usize
 }
 
 // A piece of a sheet of whole cases. A case is found by its place, walking from the first.
-fn put_piece(sheet: &[u8], n: usize, k: usize, want: Wanted, out: &mut [u8]) -> usize
+fn put_piece(sheet: &[u8], n: usize, k: usize, want: Option<u32>, out: &mut [u8]) -> usize
     requires { (n ≡ cases_in sheet.now) × (n ≤ 600) × (20480 ≤ length out.old) }
     ensures { (result ≡ length (explain_piece sheet.now n want k)) × (out.new ≡ laid (explain_piece sheet.now n want k) out.old) × (result ≤ 20480) }
 {
@@ -109,7 +102,7 @@ fn put_piece(sheet: &[u8], n: usize, k: usize, want: Wanted, out: &mut [u8]) -> 
 }
 
 // Explains piece k of a sheet over the start of the buffer; every byte after it stays. Answers how many bytes it has.
-pub fn explain_piece(sheet: &[u8], k: usize, want: Wanted, out: &mut [u8; 20480]) -> usize
+pub fn explain_piece(sheet: &[u8], k: usize, want: Option<u32>, out: &mut [u8; 20480]) -> usize
     ensures value { (result ≡ length (explained_piece sheet.now want k)) × (out.new ≡ laid (explained_piece sheet.now want k) out.old) }
     ensures upper_bound { (result ≤ length out.new) × (result ≡ length (take result out.new)) }
 {

@@ -5,7 +5,7 @@ use mathlib.Core.Bool.{Bool, true, false}
 use lib.Dec.{eqb}
 use borrow.Author.Tests.{eqb-true}
 use Rattle.wire.specs.Tests.{pick}
-use Rattle.facts.specs.Words.{None, At, Never, After}
+use Rattle.facts.specs.Words.{None, Some}
 use Rattle.facts.specs.Numbers.{mills, seconds, price_of, price_number, moment_of, moment_number}
 
 -- a mark k for `none`, and `some n` at every other number
@@ -18,11 +18,11 @@ marked number none some k n e f = by_test (eqb n k) refl where
 
 pub price_number_lem : (n : ℕ) → price_number (price_of n) ≡ n
 unfolding price_of
-price_number_lem n = marked price_number None (λ k. At (mills k)) 4294967295 n refl refl
+price_number_lem n = marked price_number None (λ k. Some (mills k)) 4294967295 n refl refl
 
 pub moment_number_lem : (n : ℕ) → moment_number (moment_of n) ≡ n
 unfolding moment_of
-moment_number_lem n = marked moment_number Never (λ k. After (seconds k)) 4294967295 n refl refl
+moment_number_lem n = marked moment_number None (λ k. Some (seconds k)) 4294967295 n refl refl
 
 -- ---- an answer that is a case, with the number that the page gives it
 pub spelled : {A : Type 0} {r a : A} {b : ℕ} (number : A → ℕ) → number a ≡ b → r ≡ a → (r ≡ a) × (number r ≡ b)

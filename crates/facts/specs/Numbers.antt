@@ -2,7 +2,7 @@
 -- `..Number` gives the page's number for each case of an answer; `..Of` reads it back.
 use Rattle.std.specs.Prelude.{ℕ, eqb}
 use Rattle.wire.specs.Tests.{pick}
-use Rattle.facts.specs.Words.{Mills, Contracts, Seconds, Price, At, None, Moment, After, Never}
+use Rattle.facts.specs.Words.{Mills, Contracts, Seconds, Price, Some, None, Moment}
 
 -- ---- the units: so many mills, contracts, seconds
 abbrev pub mills : ℕ → Mills
@@ -16,15 +16,15 @@ seconds n = record { 0 = n }
 
 -- ---- 4,294,967,295 is the mark "none"
 abbrev pub price_number : Price → ℕ
-price_number (At m) = m.0
+price_number (Some m) = m.0
 price_number None = 4294967295
 
 unfoldable pub price_of : ℕ → Price
-price_of n = pick (eqb n 4294967295) None (At (mills n))
+price_of n = pick (eqb n 4294967295) None (Some (mills n))
 
 abbrev pub moment_number : Moment → ℕ
-moment_number (After t) = t.0
-moment_number Never = 4294967295
+moment_number (Some t) = t.0
+moment_number None = 4294967295
 
 unfoldable pub moment_of : ℕ → Moment
-moment_of n = pick (eqb n 4294967295) Never (After (seconds n))
+moment_of n = pick (eqb n 4294967295) None (Some (seconds n))

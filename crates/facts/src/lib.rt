@@ -19,20 +19,6 @@ pub struct Seconds(pub u32);
 
 // ---- what may be none
 
-// A price, or none.
-#[derive(Clone, Copy)]
-pub enum Price {
-    At(Mills),
-    None,
-}
-
-// Seconds after notice, or none.
-#[derive(Clone, Copy)]
-pub enum Moment {
-    After(Seconds),
-    Never,
-}
-
 // ---- what the coded bytes say
 
 // The side in error.
@@ -77,7 +63,7 @@ pub enum Form {
 #[derive(Clone, Copy)]
 pub struct Party {
     pub code: [u8; 4],
-    pub limit: Price,
+    pub limit: Option<Mills>,
     pub kind: Kind,
 }
 
@@ -91,7 +77,7 @@ pub struct Trade {
 
 #[derive(Clone, Copy)]
 pub struct Quote {
-    pub price: Price,
+    pub price: Option<Mills>,
     pub size: Contracts,
 }
 
@@ -99,7 +85,7 @@ pub struct Quote {
 pub struct Market {
     pub bid: Quote,
     pub offer: Quote,
-    pub official: Price,
+    pub official: Option<Mills>,
 }
 
 #[derive(Clone, Copy)]
@@ -117,9 +103,9 @@ pub struct Request {
 #[derive(Clone, Copy)]
 pub struct Settlement {
     pub agreement: Agreement,
-    pub agreed: Price,
+    pub agreed: Option<Mills>,
     pub made: Seconds,
-    pub accepted: Moment,
+    pub accepted: Option<Seconds>,
 }
 
 #[derive(Clone, Copy)]
@@ -135,49 +121,49 @@ pub struct Facts {
 
 // ---- prices and moments as numbers
 
-pub fn price_of(n: u32) -> Price
+pub fn price_of(n: u32) -> Option<Mills>
     ensures { (result ≡ price_of n) × (price_number result ≡ n) }
 {
     match n {
-        4294967295 => Price::None,
-        _ => Price::At(Mills(n)),
+        4294967295 => None,
+        _ => Some(Mills(n)),
     }
 }
 
-pub fn price_number(p: Price) -> u32
+pub fn price_number(p: Option<Mills>) -> u32
     ensures { result ≡ price_number p }
 {
     match p {
-        Price::At(m) => m.0,
-        Price::None => 4294967295,
+        Some(m) => m.0,
+        None => 4294967295,
     }
 }
 
-pub fn moment_of(n: u32) -> Moment
+pub fn moment_of(n: u32) -> Option<Seconds>
     ensures { (result ≡ moment_of n) × (moment_number result ≡ n) }
 {
     match n {
-        4294967295 => Moment::Never,
-        _ => Moment::After(Seconds(n)),
+        4294967295 => None,
+        _ => Some(Seconds(n)),
     }
 }
 
-pub fn moment_number(m: Moment) -> u32
+pub fn moment_number(m: Option<Seconds>) -> u32
     ensures { result ≡ moment_number m }
 {
     match m {
-        Moment::After(t) => t.0,
-        Moment::Never => 4294967295,
+        Some(t) => t.0,
+        None => 4294967295,
     }
 }
 
 // ---- limits
 
 // Whether a price violates the limit of the party on this side.
-pub fn violates(side: Side, limit: Price, price: Mills) -> bool
+pub fn violates(side: Side, limit: Option<Mills>, price: Mills) -> bool
     ensures { result ≡ violates side limit price }
 {
-    let Price::At(l) = limit else {
+    let Some(l) = limit else {
         return false;
     };
     match side {

@@ -6,9 +6,7 @@ ghost use Rattle.std.specs.Prelude.{◌≡◌, ◌&&◌, ◌+◌, ◌≤◌, len
 ghost use Rattle.wire.specs.Numbers.{elements};
 ghost use Rattle.refusals.specs.Tests.{code_byte_ok, code_ok, codes_ok, moment_ok, filed_ok, times_ok, limits_ok, agreement_ok, later_fault_of, fault_of};
 
-use facts::{
-    Agreement, Day, Facts, Moment, Party, Price, Request, Seconds, Settlement, Side, Trade,
-};
+use facts::{Agreement, Day, Facts, Option<Mills>, Option<Seconds>, Party, Request, Seconds, Settlement, Side, Trade};
 
 // ---- 4: member codes
 
@@ -70,12 +68,12 @@ pub fn codes_at(s: &[u8]) -> bool
 
 // ---- 7: times
 
-fn moment_ok(m: Moment) -> bool
+fn moment_ok(m: Option<Seconds>) -> bool
     ensures { result ≡ moment_ok m }
 {
     match m {
-        Moment::After(t) => t.0 <= 86400,
-        Moment::Never => true,
+        Some(t) => t.0 <= 86400,
+        None => true,
     }
 }
 
@@ -120,12 +118,12 @@ fn agreement_ok(s: Settlement) -> bool
     let agreement = s.agreement;
     let agreed = s.agreed;
     match agreed {
-        Price::At(_) => match agreement {
+        Some(_) => match agreement {
             Agreement::NotMade => false,
             Agreement::OnPrice => true,
             Agreement::ToNullify => false,
         },
-        Price::None => match agreement {
+        None => match agreement {
             Agreement::NotMade => s.made.0 == 0,
             Agreement::OnPrice => false,
             Agreement::ToNullify => true,

@@ -8,7 +8,7 @@ ghost use Rattle.ruling.specs.Ruling.{ruling_of};
 ghost use Rattle.reasons.specs.Reasons.{reason_outcome};
 ghost use Rattle.figures.specs.Figures.{figures_of};
 
-use facts::Price;
+use facts::Mills;
 use ruling::{Counts, Outcome};
 
 // 4,294,967,295 for a price of none; the outcome 0 no relief, 1 adjusted, 2 nullified, 3 waiting; the origin of TP 1 a quote, 2 an official, 0 where
@@ -55,7 +55,7 @@ pub fn judge(case: &[u8]) -> Figures
     let found = r.tp;
     let origin = theory::origin_number(found);
     let tp = theory::tp_number(found);
-    let none = facts::price_number(Price::None);
+    let none = facts::price_number(None);
     match outcome {
         Outcome::NoRelief(counts) => spell(r.trade, r.reason, origin, tp, none, counts),
         Outcome::Adjusted(a) => {

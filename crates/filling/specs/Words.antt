@@ -1,6 +1,6 @@
 -- The declared types that filling speaks of, passed on under their own names.
-pub use Rattle.facts.specs.declared.Price.{Price}
-pub use Rattle.facts.specs.declared.Price.TheVariants.{At, None}
+pub use Rattle.std.specs.Prelude.{Some, None}
+pub use Rattle.facts.specs.Words.{Price}
 pub use Rattle.facts.specs.declared.Quote.{Quote}
 pub use Rattle.facts.specs.declared.Trade.{Trade}
 pub use Rattle.facts.specs.declared.Facts.{Facts}

@@ -4,7 +4,7 @@ use Rattle.std.specs.Prelude.{ℕ, List, [], length, ltb}
 use Rattle.wire.specs.Numbers.{bytes, number_at}
 use Rattle.wire.specs.Tests.{pick}
 use Rattle.facts.specs.Numbers.{mills}
-use Rattle.forms.specs.Words.{Price, At, None, Form, One, Two}
+use Rattle.forms.specs.Words.{Price, Some, None, Form, One, Two}
 
 -- how many bytes a case has
 abbrev pub form_length : Form → ℕ
@@ -19,7 +19,7 @@ form_kind (Two differential) = 2
 -- the permitted differential, which kind 1 has not
 abbrev pub differential_of : Form → Price
 differential_of One = None
-differential_of (Two differential) = At differential
+differential_of (Two differential) = Some differential
 
 -- ---- the bytes behind the 88 that every kind has: 88 permitted differential
 abbrev pub form_tail : Form → List ℕ

@@ -8,7 +8,7 @@ ghost use Rattle.wire.specs.Numbers.{stored};
 ghost use Rattle.forms.specs.Heads.{is_length, known};
 ghost use Rattle.forms.specs.Forms.{form_length, form_kind, differential_of, form_tail, form_of};
 
-use facts::{Form, Mills, Price};
+use facts::{Form, Mills};
 
 // ---- the pairs of length and kind
 
@@ -51,12 +51,12 @@ pub fn kind_of(form: Form) -> u16
 }
 
 // The permitted differential, or none.
-pub fn differential_of(form: Form) -> Price
+pub fn differential_of(form: Form) -> Option<Mills>
     ensures { result ≡ differential_of form }
 {
     match form {
-        Form::One => Price::None,
-        Form::Two(d) => Price::At(d),
+        Form::One => None,
+        Form::Two(d) => Some(d),
     }
 }
 

@@ -1,7 +1,7 @@
 -- The declared types that the halves of a quote speak of, passed on under their own names.
+pub use Rattle.std.specs.Prelude.{Some, None}
 pub use Rattle.facts.specs.declared.Mills.{Mills}
-pub use Rattle.facts.specs.declared.Price.{Price}
-pub use Rattle.facts.specs.declared.Price.TheVariants.{At, None}
+pub use Rattle.facts.specs.Words.{Price}
 pub use Rattle.facts.specs.declared.Quote.{Quote}
 pub use Rattle.quotes.specs.declared.Posted.{Posted}
 pub use Rattle.halves.specs.declared.Half.{Half}

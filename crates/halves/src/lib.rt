@@ -4,7 +4,7 @@
 ghost use Rattle.std.specs.Prelude.{◌≡◌, min};
 ghost use Rattle.halves.specs.Halves.{half_of, winner, better, size_if};
 
-use facts::{Mills, Price, Quote};
+use facts::{Mills, Quote};
 use quotes::Posted;
 
 // Which half of a quote is asked for.
@@ -34,27 +34,27 @@ fn winner(half: Half, a: Mills, b: Mills) -> Mills
 }
 
 // The better of two prices; none has no say.
-pub fn better(half: Half, p: Price, best: Price) -> Price
+pub fn better(half: Half, p: Option<Mills>, best: Option<Mills>) -> Option<Mills>
     ensures { result ≡ better half p best }
 {
-    let Price::At(a) = p else {
+    let Some(a) = p else {
         return best;
     };
     match best {
-        Price::At(b) => Price::At(winner(half, a, b)),
-        Price::None => p,
+        Some(b) => Some(winner(half, a, b)),
+        None => p,
     }
 }
 
 // The size of a quote that is at the price, else 0.
-pub fn size_if(price: Price, q: Quote) -> u32
+pub fn size_if(price: Option<Mills>, q: Quote) -> u32
     ensures { result ≡ size_if price q }
 {
-    let Price::At(a) = price else {
+    let Some(a) = price else {
         return 0;
     };
     let p = q.price;
-    let Price::At(b) = p else {
+    let Some(b) = p else {
         return 0;
     };
     if a.0 == b.0 { q.size.0 } else { 0 }

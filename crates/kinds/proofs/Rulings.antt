@@ -20,7 +20,7 @@ use Rattle.ruling.specs.Origins.{origin_of}
 use Rattle.ruling.specs.Ruling.{no_relief, settled, ruled_at, ruled_from, ruled_on, ruled_by, ruled_if, ruling_of}
 use Rattle.ruling.proofs.Walk.{each_ruling}
 use Rattle.ruling.proofs.Origins.{origin_quote}
-use Rattle.kinds.specs.Words.{Contracts, Price, At, None, Side, Buy, Sell, One, Market, Facts, Way, Obvious, Opening, Catastrophic, Open, By, Closed, Theory, Found, Missing, Source, Official, Heeded, Ignored, Repriced, Undone, Ruling}
+use Rattle.kinds.specs.Words.{Contracts, Price, Some, None, Side, Buy, Sell, One, Market, Facts, Way, Obvious, Opening, Catastrophic, Open, Theory, Source, Official, Heeded, Ignored, Repriced, Undone, Ruling}
 use Rattle.kinds.specs.Before.{theory_before, ruled_on_before, ruled_by_before, ruled_if_before, ruling_before}
 use Rattle.kinds.specs.Recast.{recast, as_kind_one, without_quotes}
 
@@ -34,12 +34,12 @@ module _ (f : Facts) (m : Market) where
   at_same : (way : Way) (s : Source) → ruled_at (recast f m) way s ≡ ruled_at f way s
   unfolding ruled_at
   at_same way s =
-      ap (λ (r : Ruling). pick (in_error f.request.side f.trade.price s.price (minimum_of way (band_of s.price))) r (no_relief f.trade 1 (Found s)))
+      ap (λ (r : Ruling). pick (in_error f.request.side f.trade.price s.price (minimum_of way (band_of s.price))) r (no_relief f.trade 1 (Some s)))
       (settled_same way s (heeded_of f.settlement way (any_customer f.buyer.kind f.seller.kind)))
 
   from_same : (way : Way) (t : Theory) → ruled_from (recast f m) way t ≡ ruled_from f way t
-  from_same way (Found s) = at_same way s
-  from_same way Missing = refl
+  from_same way (Some s) = at_same way s
+  from_same way None = refl
 
   -- so the ruling is the same where the theoretical price is
   module _ (same : theory_in (recast f m) ≡ theory_in f) where
@@ -51,11 +51,11 @@ module _ (f : Facts) (m : Market) where
     unfolding ruled_by
     by_same Obvious = on_same Obvious
     by_same Opening = on_same Opening
-    by_same Catastrophic = ap (pick f.request.decided (no_relief f.trade 3 Missing)) (on_same Catastrophic)
+    by_same Catastrophic = ap (pick f.request.decided (no_relief f.trade 3 None)) (on_same Catastrophic)
 
     if_same : (o : Open) → ruled_if (recast f m) o ≡ ruled_if f o
-    if_same (By way) = by_same way
-    if_same Closed = refl
+    if_same (Some way) = by_same way
+    if_same None = refl
 
     recast_same : ruling_of (recast f m) ≡ ruling_of f
     unfolding ruling_of
@@ -75,11 +75,11 @@ module _ (f : Facts) (trusted : too_wide f.form f.market ≡ false) where
   unfolding ruled_by
   by_before Obvious = on_before Obvious
   by_before Opening = on_before Opening
-  by_before Catastrophic = ap (pick f.request.decided (no_relief f.trade 3 Missing)) (on_before Catastrophic)
+  by_before Catastrophic = ap (pick f.request.decided (no_relief f.trade 3 None)) (on_before Catastrophic)
 
   if_before : (o : Open) → ruled_if f o ≡ ruled_if_before f o
-  if_before (By way) = by_before way
-  if_before Closed = refl
+  if_before (Some way) = by_before way
+  if_before None = refl
 
   pub ruling_before_lem : ruling_of f ≡ ruling_before f
   unfolding ruling_of ruling_before
@@ -118,8 +118,8 @@ module _ (f : Facts) (wide : too_wide f.form f.market ≡ true) where
       omega arith
 
   -- an official's price covers every contract, on every way
-  by_official : (official : Price) (way : Way) (s : Source) → official_source official ≡ Found s → s.origin ≡ Official
-  by_official (At p) way s e = cc
+  by_official : (official : Price) (way : Way) (s : Source) → official_source official ≡ Some s → s.origin ≡ Official
+  by_official (Some p) way s e = cc
   by_official None way s e = cc
 
   all_covered : (way : Way) (n : Contracts) → covered way Official n ≡ n

@@ -10,7 +10,7 @@ use Rattle.agreement.specs.Agreed.{heeded_of}
 use Rattle.act.specs.Minimum.{minimum_of}
 use Rattle.ruling.specs.Numbers.{way_in, theory_in}
 use Rattle.alike.specs.Tested.{tested_under, tested_from, tested_on, tested_by, tested_if, tested_in}
-use Rattle.kinds.specs.Words.{Price, None, Side, Market, Facts, Way, Obvious, Opening, Catastrophic, Open, By, Closed, Theory, Found, Missing, Source, Heeded, Ignored, Repriced, Undone}
+use Rattle.kinds.specs.Words.{Price, None, Side, Market, Facts, Way, Obvious, Opening, Catastrophic, Open, Some, Theory, Source, Heeded, Ignored, Repriced, Undone}
 use Rattle.kinds.specs.Recast.{recast, as_kind_one, without_quotes}
 use Rattle.kinds.proofs.Rulings.{narrow_theory, bare_theory}
 
@@ -21,10 +21,10 @@ module _ (f : Facts) (m : Market) (who : Side) where
   under_same way s Ignored = refl
 
   from_same : (way : Way) (t : Theory) → tested_from (recast f m) way who t ≡ tested_from f way who t
-  from_same way (Found s) =
+  from_same way (Some s) =
       ap (λ (p : Price). pick (in_error f.request.side f.trade.price s.price (minimum_of way (band_of s.price))) p None)
       (under_same way s (heeded_of f.settlement way (any_customer f.buyer.kind f.seller.kind)))
-  from_same way Missing = refl
+  from_same way None = refl
 
   module _ (same : theory_in (recast f m) ≡ theory_in f) where
     on_same : (way : Way) → tested_on (recast f m) who way ≡ tested_on f who way
@@ -36,8 +36,8 @@ module _ (f : Facts) (m : Market) (who : Side) where
     by_same Catastrophic = ap (pick f.request.decided None) (on_same Catastrophic)
 
     if_same : (o : Open) → tested_if (recast f m) who o ≡ tested_if f who o
-    if_same (By way) = by_same way
-    if_same Closed = refl
+    if_same (Some way) = by_same way
+    if_same None = refl
 
     recast_tested : tested_in (recast f m) who ≡ tested_in f who
     unfolding tested_in

@@ -12,7 +12,7 @@ use Rattle.theory.specs.Theory.{quote_for, source_of}
 use Rattle.ruling.specs.Ruling.{no_relief, ruled_from}
 use Rattle.notices.specs.Records.{answer_bytes}
 use Rattle.sheet.specs.Sheet.{refusal_bytes, refused_whole}
-use Rattle.kinds.specs.Words.{Side, Market, Facts, Way, Obvious, Opening, Catastrophic, Open, By, Closed, Theory, Missing, Ruling, SheetAnswer}
+use Rattle.kinds.specs.Words.{Side, Market, Facts, Way, Obvious, Opening, Catastrophic, Open, Some, None, Theory, Ruling, SheetAnswer}
 
 -- ---- the tests: 1, 88 bytes; 2, length 88 and kind 1; 5, without a differential
 abbrev pub length_before : List ℕ → Bool
@@ -53,11 +53,11 @@ ruled_on_before f way = ruled_from f way (theory_before f.request.side f.market)
 abbrev pub ruled_by_before : Facts → Way → Ruling
 ruled_by_before f Obvious = ruled_on_before f Obvious
 ruled_by_before f Opening = ruled_on_before f Opening
-ruled_by_before f Catastrophic = pick f.request.decided (no_relief f.trade 3 Missing) (ruled_on_before f Catastrophic)
+ruled_by_before f Catastrophic = pick f.request.decided (no_relief f.trade 3 None) (ruled_on_before f Catastrophic)
 
 abbrev pub ruled_if_before : Facts → Open → Ruling
-ruled_if_before f (By way) = ruled_by_before f way
-ruled_if_before f Closed = no_relief f.trade 2 Missing
+ruled_if_before f (Some way) = ruled_by_before f way
+ruled_if_before f None = no_relief f.trade 2 None
 
 unfoldable pub ruling_before : Facts → Ruling
 ruling_before f = ruled_if_before f (way_of f.trade.executed f.request (by_side f.request.side f.buyer.kind f.seller.kind))

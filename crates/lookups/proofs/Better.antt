@@ -11,28 +11,28 @@ use lib.ListN.{get_or}
 use borrow.Author.Tests.{ltb-true, ltb-false}
 use Rattle.wire.proofs.Tests.{either}
 use Rattle.halves.specs.Halves.{better}
-use Rattle.best.specs.Words.{Mills, Price, At, None, Quote, Posted, Half, Bid, Offer}
+use Rattle.best.specs.Words.{Mills, Price, Some, None, Quote, Posted, Half, Bid, Offer}
 use Rattle.best.specs.Lasts.{last_of, lasts_from, lasts}
 use Rattle.best.specs.Best.{nobody, said_by, best_price}
 use Rattle.lookups.specs.Lookups.{NoBetter}
 
 abbrev is_price : Price → Bool
-is_price (At m) = true
+is_price (Some m) = true
 is_price None = false
 
 mine : (h : Half) (p r : Price) → NoBetter h p (better h p r)
 mine h None r = tt
-mine Bid (At a) None = le_refl _
-mine Offer (At a) None = le_refl _
-mine Bid (At a) (At b) = either (λ m. a.0 ≤ m.0) (ltb a.0 b.0) b a (λ e. omega (arith, ltb-true a.0 b.0 e)) (λ e. le_refl _)
-mine Offer (At a) (At b) = either (λ m. m.0 ≤ a.0) (ltb b.0 a.0) b a (λ e. omega (arith, ltb-true b.0 a.0 e)) (λ e. le_refl _)
+mine Bid (Some a) None = le_refl _
+mine Offer (Some a) None = le_refl _
+mine Bid (Some a) (Some b) = either (λ m. a.0 ≤ m.0) (ltb a.0 b.0) b a (λ e. omega (arith, ltb-true a.0 b.0 e)) (λ e. le_refl _)
+mine Offer (Some a) (Some b) = either (λ m. m.0 ≤ a.0) (ltb b.0 a.0) b a (λ e. omega (arith, ltb-true b.0 a.0 e)) (λ e. le_refl _)
 
 rest : (h : Half) (x p r : Price) → NoBetter h x r → NoBetter h x (better h p r)
 rest h None p r g = tt
-rest h (At x) None r g = g
-rest h (At x) (At a) None g = absurd g
-rest Bid (At x) (At a) (At b) g = either (λ m. x.0 ≤ m.0) (ltb a.0 b.0) b a (λ e. g) (λ e. omega (arith, ltb-false a.0 b.0 e))
-rest Offer (At x) (At a) (At b) g = either (λ m. m.0 ≤ x.0) (ltb b.0 a.0) b a (λ e. g) (λ e. omega (arith, ltb-false b.0 a.0 e))
+rest h (Some x) None r g = g
+rest h (Some x) (Some a) None g = absurd g
+rest Bid (Some x) (Some a) (Some b) g = either (λ m. x.0 ≤ m.0) (ltb a.0 b.0) b a (λ e. g) (λ e. omega (arith, ltb-false a.0 b.0 e))
+rest Offer (Some x) (Some a) (Some b) g = either (λ m. m.0 ≤ x.0) (ltb b.0 a.0) b a (λ e. g) (λ e. omega (arith, ltb-false b.0 a.0 e))
 
 pub no_better : (h : Half) (qs : List Quote) (k : ℕ) → NoBetter h (get_or qs k nobody).price (best_price h qs)
 unfolding best_price
@@ -42,9 +42,9 @@ no_better h (q ∷ qs) (suc k) = rest h (get_or qs k nobody).price q.price (best
 
 one : (h : Half) (p r : Price) → (better h p r ≡ p) ⊎ (better h p r ≡ r)
 one h None r = inr refl
-one h (At a) None = inl refl
-one Bid (At a) (At b) = either (λ m. (At m ≡ At a) ⊎ (At m ≡ At b)) (ltb a.0 b.0) b a (λ e. inr refl) (λ e. inl refl)
-one Offer (At a) (At b) = either (λ m. (At m ≡ At a) ⊎ (At m ≡ At b)) (ltb b.0 a.0) b a (λ e. inr refl) (λ e. inl refl)
+one h (Some a) None = inl refl
+one Bid (Some a) (Some b) = either (λ m. (Some m ≡ Some a) ⊎ (Some m ≡ Some b)) (ltb a.0 b.0) b a (λ e. inr refl) (λ e. inl refl)
+one Offer (Some a) (Some b) = either (λ m. (Some m ≡ Some a) ⊎ (Some m ≡ Some b)) (ltb b.0 a.0) b a (λ e. inr refl) (λ e. inl refl)
 
 pub attained : (h : Half) (qs : List Quote) → (k : ℕ) × ((get_or qs k nobody).price ≡ best_price h qs)
 unfolding best_price
@@ -74,15 +74,15 @@ module _ (h : Half) (qs : List Posted) where
       let z : 1 + (e - 1) ≡ e = omega arith in
       rw (said_get h 16 (e - 1) 1 qs (omega arith), z) at (no_better h (map (said_by h) (lasts qs)) (e - 1))
 
-  pub is_one : (m : Mills) → best ≡ At m → (e : ℕ) × (1 ≤ e) × (e ≤ 16) × ((said_by h (last_of e qs)).price ≡ At m)
+  pub is_one : (m : Mills) → best ≡ Some m → (e : ℕ) × (1 ≤ e) × (e ≤ 16) × ((said_by h (last_of e qs)).price ≡ Some m)
   is_one m b =
       let a = attained h (map (said_by h) (lasts qs)) in
       by_place a.0 (a.1 ∙ b) (ltb a.0 16) refl where
-        none_at : None ≡ At m → ⊥
+        none_at : None ≡ Some m → ⊥
         none_at e = false≢true (ap is_price e)
 
-        by_place : (k : ℕ) → (get_or (map (said_by h) (lasts qs)) k nobody).price ≡ At m → (t : Bool) → ltb k 16 ≡ t
-            → (e : ℕ) × (1 ≤ e) × (e ≤ 16) × ((said_by h (last_of e qs)).price ≡ At m)
+        by_place : (k : ℕ) → (get_or (map (said_by h) (lasts qs)) k nobody).price ≡ Some m → (t : Bool) → ltb k 16 ≡ t
+            → (e : ℕ) × (1 ≤ e) × (e ≤ 16) × ((said_by h (last_of e qs)).price ≡ Some m)
         by_place k p true t =
             let l = ltb-true k 16 t in
             (1 + k, omega arith, omega arith, ap (λ (q : Quote). q.price) (sym (said_get h 16 k 1 qs l)) ∙ p)

@@ -1,4 +1,5 @@
 -- What is found passes the tests 5 and 6 on quotes.
+use Rattle.std.specs.Prelude.{Some, None}
 use Prim.Native.Nat.{ℕ, zero, suc, ◌≤◌, min}
 use mathlib.Core.Path.{◌≡◌, refl}
 use mathlib.Core.Bool.{Bool, true, false, ◌&&◌, ◌||◌}
@@ -13,9 +14,8 @@ use Rattle.facts.specs.Numbers.{contracts}
 use Rattle.quotes.specs.Quotes.{posted_from, posted_in, is_quote, side_ok, fields_ok, record_ok, records_ok, quotes_refusal_of}
 use Rattle.quotes.proofs.Accepted.{all_ok_lem}
 use Rattle.halves.specs.Halves.{half_of, better, same, size_if}
-use Rattle.best.specs.declared.Last.{Last}
-use Rattle.best.specs.declared.Last.TheVariants.{Silent, Sent}
-use Rattle.best.specs.Words.{Mills, Price, At, None, Quote, Posted, Half, Bid, Offer}
+use Rattle.best.specs.Words.{Last}
+use Rattle.best.specs.Words.{Mills, Price, Some, None, Quote, Posted, Half, Bid, Offer}
 use Rattle.earlier.specs.Earlier.{earlier}
 use Rattle.best.specs.Lasts.{or_else, last_of, lasts_from}
 use Rattle.best.specs.Best.{said_by, best_price, size_at, best_of}
@@ -41,28 +41,28 @@ AllOk (q ∷ qs) = (side_ok q ≡ true) × AllOk qs
 -- a price in range, and a size at it unless it is zero
 abbrev Good : Price → List Quote → Type 0
 Good None qs = Unit {0}
-Good (At m) qs = (m.0 ≤ 9999999) × ((m.0 ≡ 0) ⊎ (1 ≤ size_at (At m) qs))
+Good (Some m) qs = (m.0 ≤ 9999999) × ((m.0 ≡ 0) ⊎ (1 ≤ size_at (Some m) qs))
 
 good_rest : (q : Quote) (qs : List Quote) (p : Price) → Good p qs → Good p (q ∷ qs)
 unfolding size_at
 good_rest q qs None g = tt
-good_rest q qs (At m) g = (g.0, ⊎_elim (λ e. inl e) (λ l. inr (omega arith)) g.1)
+good_rest q qs (Some m) g = (g.0, ⊎_elim (λ e. inl e) (λ l. inr (omega arith)) g.1)
 
-good_mine : (q : Quote) (qs : List Quote) (a : Mills) → q.price ≡ At a → side_ok q ≡ true → Good (At a) (q ∷ qs)
+good_mine : (q : Quote) (qs : List Quote) (a : Mills) → q.price ≡ Some a → side_ok q ≡ true → Good (Some a) (q ∷ qs)
 unfolding side_ok size_at size_if
 good_mine q qs a e o =
     let b = both_true _ _ (rw e at o) in
     let d = both_true (leb q.size.0 1000000) _ b.1 in
-    let size : pick (same (At a) q.price) q.size.0 0 ≡ q.size.0 = rw (e, eq-eqb a.0 a.0 refl) in (
+    let size : pick (same (Some a) q.price) q.size.0 0 ≡ q.size.0 = rw (e, eq-eqb a.0 a.0 refl) in (
       leb-true a.0 9999999 b.0,
       ⊎_elim (λ z. inl (eqb-true a.0 0 z)) (λ l. inr (omega (arith, leb-true 1 q.size.0 l, size))) (or_split (eqb a.0 0) _ d.1),
     )
 
 good_better : (h : Half) (q : Quote) (qs : List Quote) (p r : Price) → q.price ≡ p → side_ok q ≡ true → Good r qs → Good (better h p r) (q ∷ qs)
 good_better h q qs None r e o g = good_rest q qs r g
-good_better h q qs (At a) None e o g = good_mine q qs a e o
-good_better Bid q qs (At a) (At b) e o g = either (λ m. Good (At m) (q ∷ qs)) (ltb a.0 b.0) b a (λ z. good_rest q qs (At b) g) (λ z. good_mine q qs a e o)
-good_better Offer q qs (At a) (At b) e o g = either (λ m. Good (At m) (q ∷ qs)) (ltb b.0 a.0) b a (λ z. good_rest q qs (At b) g) (λ z. good_mine q qs a e o)
+good_better h q qs (Some a) None e o g = good_mine q qs a e o
+good_better Bid q qs (Some a) (Some b) e o g = either (λ m. Good (Some m) (q ∷ qs)) (ltb a.0 b.0) b a (λ z. good_rest q qs (Some b) g) (λ z. good_mine q qs a e o)
+good_better Offer q qs (Some a) (Some b) e o g = either (λ m. Good (Some m) (q ∷ qs)) (ltb b.0 a.0) b a (λ z. good_rest q qs (Some b) g) (λ z. good_mine q qs a e o)
 
 best_good : (h : Half) (qs : List Quote) → AllOk qs → Good (best_price h qs) qs
 unfolding best_price
@@ -77,8 +77,8 @@ nothing_at_none (q ∷ qs) = omega (arith, nothing_at_none qs)
 good_ok : (p : Price) (qs : List Quote) → Good p qs → side_ok (record { price = p; size = contracts (min (size_at p qs) 1000000) }) ≡ true
 unfolding side_ok
 good_ok None qs g = rw (nothing_at_none qs)
-good_ok (At m) qs g =
-    let z = min (size_at (At m) qs) 1000000 in
+good_ok (Some m) qs g =
+    let z = min (size_at (Some m) qs) 1000000 in
     let some : (eqb m.0 0 || leb 1 z) ≡ true = ⊎_elim (λ e. or_left (eqb m.0 0) (leb 1 z) (eq-eqb m.0 0 e)) (λ l. or_right (eqb m.0 0) (leb 1 z) (le-leb 1 z (omega arith))) g.1 in
     simp (le-leb m.0 9999999 g.0, le-leb z 1000000 (omega arith), some)
 
@@ -111,19 +111,19 @@ module _ (h : Half) where
   abbrev SaysOk : Last → Type 0
   SaysOk l = side_ok (said_by h l) ≡ true
 
-  silent_ok : SaysOk Silent
+  silent_ok : SaysOk None
   unfolding side_ok
   silent_ok = refl
 
   or_ok : (l m : Last) → SaysOk l → SaysOk m → SaysOk (or_else l m)
-  or_ok Silent m a b = b
-  or_ok (Sent q) m a b = a
+  or_ok None m a b = b
+  or_ok (Some q) m a b = a
 
   last_ok : (e : ℕ) (qs : List Posted) → Fit qs → SaysOk (last_of e qs)
   unfolding last_of
   last_ok e [] f = silent_ok
   last_ok e (q ∷ qs) f =
-      or_ok (last_of e qs) _ (last_ok e qs f.1) (either SaysOk (eqb q.exchange e) (Sent q) Silent (λ z. half_ok h q f.0) (λ z. silent_ok))
+      or_ok (last_of e qs) _ (last_ok e qs f.1) (either SaysOk (eqb q.exchange e) (Some q) None (λ z. half_ok h q f.0) (λ z. silent_ok))
 
   lasts_ok : (n e : ℕ) (qs : List Posted) → Fit qs → AllOk (map (said_by h) (lasts_from e n qs))
   unfolding lasts_from

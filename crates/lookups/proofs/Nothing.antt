@@ -1,4 +1,5 @@
 -- Quotes that change nothing: those at the trade's second or later, and those that another of their exchange overtakes before the trade.
+use Rattle.std.specs.Prelude.{Some, None}
 use Prim.Native.Nat.{ℕ, zero, suc, ◌+◌}
 use mathlib.Core.Path.{◌≡◌, refl, sym, ap, ◌∙◌}
 use mathlib.Core.Bool.{Bool, true, false}
@@ -9,7 +10,6 @@ use Rattle.wire.specs.Tests.{pick}
 use Rattle.wire.proofs.Tests.{either}
 use Rattle.quotes.specs.Quotes.{posted_in}
 use Rattle.lookups.proofs.Joined.{joined_posted}
-use Rattle.best.specs.declared.Last.TheVariants.{Silent, Sent}
 use Rattle.best.specs.Words.{Posted}
 use Rattle.earlier.specs.Earlier.{earlier}
 use Rattle.best.specs.Lasts.{or_else, last_of, lasts_from, lasts}
@@ -55,15 +55,15 @@ behind e [] qs rs h = h
 behind e (p ∷ ps) qs rs h = rw (behind e ps qs rs h)
 
 -- a quote of exchange e before a list in which e is known
-passed : (e : ℕ) (q p : Posted) (qs : List Posted) → last_of q.exchange qs ≡ Sent p → last_of e (q ∷ qs) ≡ last_of e qs
+passed : (e : ℕ) (q p : Posted) (qs : List Posted) → last_of q.exchange qs ≡ Some p → last_of e (q ∷ qs) ≡ last_of e qs
 unfolding last_of
 passed e q p qs h = by_test (eqb q.exchange e) refl where
-  by_test : (b : Bool) → eqb q.exchange e ≡ b → or_else (last_of e qs) (pick b (Sent q) Silent) ≡ last_of e qs
-  by_test true z = let is : last_of e qs ≡ Sent p = rw (eqb-true q.exchange e z) at h in rw is
+  by_test : (b : Bool) → eqb q.exchange e ≡ b → or_else (last_of e qs) (pick b (Some q) None) ≡ last_of e qs
+  by_test true z = let is : last_of e qs ≡ Some p = rw (eqb-true q.exchange e z) at h in rw is
   by_test false z = or_nothing (last_of e qs)
 
 -- known behind, known with more in front
-known_behind : (e : ℕ) (p : Posted) (ps qs : List Posted) → last_of e qs ≡ Sent p → last_of e (ps ++ qs) ≡ Sent p
+known_behind : (e : ℕ) (p : Posted) (ps qs : List Posted) → last_of e qs ≡ Some p → last_of e (ps ++ qs) ≡ Some p
 unfolding last_of
 known_behind e p [] qs h = h
 known_behind e p (x ∷ ps) qs h = rw (known_behind e p ps qs h)

@@ -1,13 +1,11 @@
 -- What the laws of looking up and filling speak of (RULE R16.13 to R16.15, R16.22, R16.25).
-use Rattle.std.specs.Prelude.{ℕ, ◌%◌, ◌≤◌, ◌<◌, ◌≡◌, true, false, ◌⊎◌, List, [], ◌∷◌, length}
-use Rattle.facts.specs.declared.Price.{Price}
-use Rattle.facts.specs.declared.Price.TheVariants.{At, None}
+use Rattle.std.specs.Prelude.{ℕ, ◌%◌, ◌≤◌, ◌<◌, ◌≡◌, true, false, ◌⊎◌, List, [], ◌∷◌, length, Some, None}
+use Rattle.facts.specs.Words.{Price}
 use Rattle.quotes.specs.declared.Posted.{Posted}
 use Rattle.quotes.specs.Quotes.{side_ok}
 use Rattle.halves.specs.declared.Half.{Half}
 use Rattle.halves.specs.declared.Half.TheVariants.{Bid, Offer}
 use Rattle.best.specs.declared.Found.{Found}
-use Rattle.best.specs.declared.Last.TheVariants.{Sent}
 use Rattle.earlier.specs.Earlier.{earlier}
 use Rattle.best.specs.Lasts.{last_of, lasts}
 use Rattle.best.specs.Examined.{all_known}
@@ -24,7 +22,7 @@ AllLate t (q ∷ qs) = (t ≤ q.time.0) × AllLate t qs
 -- each is overtaken: among what comes after them there is a quote of its exchange strictly before the trade
 abbrev pub AllOvertaken : ℕ → List Posted → List Posted → Type 0
 AllOvertaken t [] after = Unit {0}
-AllOvertaken t (q ∷ qs) after = ((p : Posted) × (last_of q.exchange (earlier t after) ≡ Sent p)) × AllOvertaken t qs after
+AllOvertaken t (q ∷ qs) after = ((p : Posted) × (last_of q.exchange (earlier t after) ≡ Some p)) × AllOvertaken t qs after
 
 -- a whole number of records
 abbrev pub Whole : List ℕ → Type 0
@@ -33,9 +31,9 @@ Whole s = length s % 28 ≡ 0
 -- a price that is none, or no better than the other: a bid at most, an offer at least that; where there is one there is the other
 abbrev pub NoBetter : Half → Price → Price → Type 0
 NoBetter h None r = Unit {0}
-NoBetter h (At a) None = ⊥
-NoBetter Bid (At a) (At b) = a.0 ≤ b.0
-NoBetter Offer (At a) (At b) = b.0 ≤ a.0
+NoBetter h (Some a) None = ⊥
+NoBetter Bid (Some a) (Some b) = a.0 ≤ b.0
+NoBetter Offer (Some a) (Some b) = b.0 ≤ a.0
 
 -- a walk over the list ps ++ qs, from its end back, that reads n quotes: if qs are fewer, they do not make all sixteen known; if they are as many, they
 -- do, or there is nothing before them

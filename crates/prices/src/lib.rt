@@ -5,7 +5,7 @@
 ghost use Rattle.std.specs.Prelude.{◌≡◌};
 ghost use Rattle.refusals.specs.Tests.{mills_ok, price_ok, quotes_priced, differential_ok, prices_ok, quote_ok, counts_ok};
 
-use facts::{Facts, Market, Mills, Price, Quote, Trade};
+use facts::{Facts, Market, Mills, Quote, Trade};
 
 // ---- 5: prices
 
@@ -15,12 +15,12 @@ fn mills_ok(m: Mills) -> bool
     m.0 <= 9999999
 }
 
-fn price_ok(p: Price) -> bool
+fn price_ok(p: Option<Mills>) -> bool
     ensures { result ≡ price_ok p }
 {
     match p {
-        Price::At(m) => mills_ok(m),
-        Price::None => true,
+        Some(m) => mills_ok(m),
+        None => true,
     }
 }
 
@@ -35,12 +35,12 @@ fn quotes_priced(m: Market) -> bool
     price_ok(bid_price) & price_ok(offer_price) & price_ok(official)
 }
 
-fn differential_ok(p: Price) -> bool
+fn differential_ok(p: Option<Mills>) -> bool
     ensures { result ≡ differential_ok p }
 {
     match p {
-        Price::At(m) => (1 <= m.0) & (m.0 <= 9999999),
-        Price::None => true,
+        Some(m) => (1 <= m.0) & (m.0 <= 9999999),
+        None => true,
     }
 }
 
@@ -76,8 +76,8 @@ fn quote_ok(q: Quote) -> bool
 {
     let price = q.price;
     match price {
-        Price::At(m) => (q.size.0 <= 1000000) & ((m.0 == 0) | (1 <= q.size.0)),
-        Price::None => q.size.0 == 0,
+        Some(m) => (q.size.0 <= 1000000) & ((m.0 == 0) | (1 <= q.size.0)),
+        None => q.size.0 == 0,
     }
 }
 

@@ -11,11 +11,11 @@ use Rattle.wire.specs.Tests.{pick, in_range}
 use Rattle.wire.proofs.Tests.{both_true}
 use Rattle.facts.specs.Numbers.{mills, price_of}
 use Rattle.refusals.specs.Tests.{price_ok, quote_ok}
-use Rattle.quotes.specs.Words.{None, At}
+use Rattle.quotes.specs.Words.{None, Some}
 use Rattle.quotes.specs.Quotes.{quote_of, posted_at, is_quote, side_ok, fields_ok, record_ok}
 
 module _ (p n : ℕ) where
-  said : p ≤ 9999999 → price_of p ≡ At (mills p)
+  said : p ≤ 9999999 → price_of p ≡ Some (mills p)
   unfolding price_of
   said h = simp (ne_eqb p 4294967295 (λ e. omega arith))
 
@@ -37,7 +37,7 @@ module _ (p n : ℕ) where
     above : leb p 9999999 ≡ false
     above = simp (le-leb 1 p (omega (arith, some))) at h
 
-    by_test : (b : Bool) → (b && eqb n 0) ≡ (price_ok (pick b None (At (mills p))) && quote_ok (pick b None (At (mills p))) (record { 0 = n }))
+    by_test : (b : Bool) → (b && eqb n 0) ≡ (price_ok (pick b None (Some (mills p))) && quote_ok (pick b None (Some (mills p))) (record { 0 = n }))
     by_test true = refl
     by_test false = simp above
 

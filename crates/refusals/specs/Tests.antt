@@ -6,7 +6,7 @@ use Rattle.wire.specs.Tests.{in_range, first_failed}
 use Rattle.facts.specs.Limits.{violates}
 use Rattle.forms.specs.Heads.{is_length, known, size_in, kind_in}
 use Rattle.forms.specs.Forms.{differential_of}
-use Rattle.refusals.specs.Words.{Mills, Contracts, Seconds, Price, At, None, Moment, After, Never, Buy, Sell, Day, TradeDate, NextDay, Later, Agreement, NotMade, OnPrice, ToNullify, Party, Trade, Market, Request, Settlement, Facts}
+use Rattle.refusals.specs.Words.{Mills, Contracts, Seconds, Price, Some, None, Moment, Buy, Sell, Day, TradeDate, NextDay, Later, Agreement, NotMade, OnPrice, ToNullify, Party, Trade, Market, Request, Settlement, Facts}
 
 -- ---- 1: the case is as long as some kind of case, 88 or 92 bytes
 abbrev pub length_ok : List ℕ → Bool
@@ -51,7 +51,7 @@ abbrev pub mills_ok : Mills → Bool
 mills_ok m = leb m.0 9999999
 
 abbrev pub price_ok : Price → Bool
-price_ok (At m) = mills_ok m
+price_ok (Some m) = mills_ok m
 price_ok None = true
 
 unfoldable pub quotes_priced : Market → Bool
@@ -59,7 +59,7 @@ quotes_priced m = price_ok m.bid.price && price_ok m.offer.price && price_ok m.o
 
 -- a permitted differential, where the form has one, is 1 to 9,999,999
 abbrev pub differential_ok : Price → Bool
-differential_ok (At d) = in_range 1 9999999 d.0
+differential_ok (Some d) = in_range 1 9999999 d.0
 differential_ok None = true
 
 unfoldable pub prices_ok : Facts → Bool
@@ -73,7 +73,7 @@ prices_ok f =
 
 -- ---- 6: 1 to 1,000,000 contracts; a size is at most 1,000,000, at least 1 for a quote above zero, 0 for a quote of none
 abbrev pub quote_ok : Price → Contracts → Bool
-quote_ok (At m) size = leb size.0 1000000 && (eqb m.0 0 || leb 1 size.0)
+quote_ok (Some m) size = leb size.0 1000000 && (eqb m.0 0 || leb 1 size.0)
 quote_ok None size = eqb size.0 0
 
 unfoldable pub counts_ok : Trade → Market → Bool
@@ -85,8 +85,8 @@ counts_ok t m =
 
 -- ---- 7: times of day to 86,399, seconds after notice to 86,400; on day 0 no filing before the execution
 abbrev pub moment_ok : Moment → Bool
-moment_ok (After t) = leb t.0 86400
-moment_ok Never = true
+moment_ok (Some t) = leb t.0 86400
+moment_ok None = true
 
 abbrev pub filed_ok : Day → Seconds → Seconds → Bool
 filed_ok TradeDate executed filed = leb executed.0 filed.0
@@ -107,11 +107,11 @@ limits_ok t buyer seller = not (violates Buy buyer.limit t.price) && not (violat
 
 -- ---- 9: an agreed price is there exactly where the agreement is on a price; where none was made its seconds are 0
 abbrev pub agreement_ok : Agreement → Price → Seconds → Bool
-agreement_ok NotMade (At m) made = false
+agreement_ok NotMade (Some m) made = false
 agreement_ok NotMade None made = eqb made.0 0
-agreement_ok OnPrice (At m) made = true
+agreement_ok OnPrice (Some m) made = true
 agreement_ok OnPrice None made = false
-agreement_ok ToNullify (At m) made = false
+agreement_ok ToNullify (Some m) made = false
 agreement_ok ToNullify None made = true
 
 -- ---- the tests in their order: those on the bytes, those on the facts

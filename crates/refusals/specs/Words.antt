@@ -1,11 +1,10 @@
 -- The declared types that the tests speak of, passed on under their own names.
+pub use Rattle.std.specs.Prelude.{Some, None}
 pub use Rattle.facts.specs.declared.Mills.{Mills}
 pub use Rattle.facts.specs.declared.Contracts.{Contracts}
 pub use Rattle.facts.specs.declared.Seconds.{Seconds}
-pub use Rattle.facts.specs.declared.Price.{Price}
-pub use Rattle.facts.specs.declared.Price.TheVariants.{At, None}
-pub use Rattle.facts.specs.declared.Moment.{Moment}
-pub use Rattle.facts.specs.declared.Moment.TheVariants.{After, Never}
+pub use Rattle.facts.specs.Words.{Price}
+pub use Rattle.facts.specs.Words.{Moment}
 pub use Rattle.facts.specs.declared.Side.TheVariants.{Buy, Sell}
 pub use Rattle.facts.specs.declared.Day.{Day}
 pub use Rattle.facts.specs.declared.Day.TheVariants.{TradeDate, NextDay, Later}

@@ -19,7 +19,7 @@ use Rattle.codes.specs.Codes.{side_of, kind_of, day_of, agreement_of, flag_of}
 use Rattle.codes.proofs.Codes.{side_again, kind_again, day_again, agreement_again, flag_again}
 use Rattle.record.specs.Record.{trade_of, market_of, request_of, party_at, settlement_of, facts_of, bytes_as, record_bytes}
 use Rattle.refusals.specs.Tests.{mills_ok, price_ok, differential_ok, moment_ok, quote_ok, codes_ok, quotes_priced, prices_ok, counts_ok, times_ok, filed_ok, fault_of}
-use Rattle.refusals.specs.Words.{Contracts, Price, At, None, Moment, After, Never, Party, Trade, Market, Request, Settlement, Facts}
+use Rattle.refusals.specs.Words.{Contracts, Price, Some, None, Moment, Party, Trade, Market, Request, Settlement, Facts}
 use Rattle.cases.specs.Cases.{Held}
 
 -- ---- what a test says of the number that stands for a field
@@ -27,25 +27,25 @@ below : (n k : ℕ) → leb n k ≡ true → T (ltb k 4294967296) → n < 429496
 below n k h t = lt_of_le_of_lt (leb-true n k h) (lit< t)
 
 pub price_fits : (p : Price) → price_ok p ≡ true → price_number p < 4294967296
-price_fits (At m) h = below m.0 9999999 h tt
+price_fits (Some m) h = below m.0 9999999 h tt
 price_fits None h = lit< tt
 
 pub price_again : (p : Price) → price_ok p ≡ true → price_of (price_number p) ≡ p
 unfolding price_of
-price_again (At m) h = simp (ne_eqb m.0 4294967295 (λ e. omega (arith, leb-true m.0 9999999 h)))
+price_again (Some m) h = simp (ne_eqb m.0 4294967295 (λ e. omega (arith, leb-true m.0 9999999 h)))
 price_again None h = refl
 
 moment_fits : (m : Moment) → moment_ok m ≡ true → moment_number m < 4294967296
-moment_fits (After t) h = below t.0 86400 h tt
-moment_fits Never h = lit< tt
+moment_fits (Some t) h = below t.0 86400 h tt
+moment_fits None h = lit< tt
 
 moment_again : (m : Moment) → moment_ok m ≡ true → moment_of (moment_number m) ≡ m
 unfolding moment_of
-moment_again (After t) h = simp (ne_eqb t.0 4294967295 (λ e. omega (arith, leb-true t.0 86400 h)))
-moment_again Never h = refl
+moment_again (Some t) h = simp (ne_eqb t.0 4294967295 (λ e. omega (arith, leb-true t.0 86400 h)))
+moment_again None h = refl
 
 pub size_fits : (p : Price) (n : Contracts) → quote_ok p n ≡ true → n.0 < 4294967296
-size_fits (At m) n h = below n.0 1000000 (both_true (leb n.0 1000000) (eqb m.0 0 || leb 1 n.0) h).0 tt
+size_fits (Some m) n h = below n.0 1000000 (both_true (leb n.0 1000000) (eqb m.0 0 || leb 1 n.0) h).0 tt
 size_fits None n h = omega (arith, eqb-true n.0 0 h)
 
 -- ---- facts that pass the tests 4 to 9, field by field

@@ -15,7 +15,7 @@ use Rattle.theory.specs.Theory.{up_to}
 use Rattle.theory.proofs.Prices.{theory_priced}
 use Rattle.agreement.specs.Agreed.{in_time, may_nullify, terms_of, heeded_of, accepted_in_time}
 use Rattle.act.proofs.Priced.{act_between, act_priced}
-use Rattle.ruling.specs.Words.{Mills, Contracts, Price, At, None, Agreement, NotMade, OnPrice, ToNullify, Facts, Way, Obvious, Opening, Catastrophic, Origin, Quoted, Official, Source, Ignored, Repriced}
+use Rattle.ruling.specs.Words.{Mills, Contracts, Price, Some, None, Agreement, NotMade, OnPrice, ToNullify, Facts, Way, Obvious, Opening, Catastrophic, Origin, Quoted, Official, Source, Ignored, Repriced}
 use Rattle.ruling.specs.Counts.{covered_by, covered}
 use Rattle.ruling.specs.Ruling.{ruling_of}
 use Rattle.ruling.specs.Laws.{LiesBetween, SumsTo, PricedUpTo}
@@ -56,20 +56,20 @@ lies_between f l =
     g.cause)
 
 -- an agreed price that is heeded is the settlement's
-agreed_on : (a : Agreement) (x : Price) (b : Bool) (p : Mills) → terms_of a x b ≡ Repriced p → x ≡ At p
+agreed_on : (a : Agreement) (x : Price) (b : Bool) (p : Mills) → terms_of a x b ≡ Repriced p → x ≡ Some p
 agreed_on NotMade x b p e = cc
-agreed_on OnPrice (At q) b p e = cc
+agreed_on OnPrice (Some q) b p e = cc
 agreed_on OnPrice None b p e = cc
 agreed_on ToNullify x true p e = cc
 agreed_on ToNullify x false p e = cc
 
-pub heeded_price : (f : Facts) (way : Way) (p : Mills) → heeded_at f way ≡ Repriced p → f.settlement.agreed ≡ At p
+pub heeded_price : (f : Facts) (way : Way) (p : Mills) → heeded_at f way ≡ Repriced p → f.settlement.agreed ≡ Some p
 unfolding heeded_of
 heeded_price f way p e = by_test (in_time f.settlement.made customer) e where
   customer : Bool
   customer = any_customer f.buyer.kind f.seller.kind
 
-  by_test : (b : Bool) → pick b (terms_of f.settlement.agreement f.settlement.agreed (may_nullify way customer)) Ignored ≡ Repriced p → f.settlement.agreed ≡ At p
+  by_test : (b : Bool) → pick b (terms_of f.settlement.agreement f.settlement.agreed (may_nullify way customer)) Ignored ≡ Repriced p → f.settlement.agreed ≡ Some p
   by_test true h = agreed_on f.settlement.agreement f.settlement.agreed (may_nullify way customer) p h
   by_test false h = cc
 

@@ -12,7 +12,7 @@ use Rattle.facts.specs.Numbers.{price_number}
 use Rattle.bands.specs.Table.{band_of}
 use Rattle.agreement.specs.Agreed.{accepted_in_time}
 use Rattle.act.proofs.Reasons.{act_told}
-use Rattle.ruling.specs.Words.{Mills, None, Facts, Way, Source, Theory, Found, Missing, Ruling}
+use Rattle.ruling.specs.Words.{Mills, None, Facts, Way, Source, Theory, Some, Ruling}
 use Rattle.ruling.specs.Outcomes.{outcome_number, new_price, counts_of}
 use Rattle.ruling.specs.Ruling.{ruling_of}
 use Rattle.ruling.specs.Numbers.{act_price_at, new_price_for, way_in, theory_in, not_looked_for, cover_for, InNumbers}
@@ -27,19 +27,19 @@ module _ (f : Facts) where
   set reason tp = pick (eqb reason 10) (price_number f.settlement.agreed) (act_price_at reason f.request.side tp)
 
   -- neither 2 and 3, which have no TP, nor 1 to 5 nor 11 to 13 set one
-  shut : (r : ℕ) → not_looked_for r ≡ true → price_number None ≡ set r Missing
+  shut : (r : ℕ) → not_looked_for r ≡ true → price_number None ≡ set r None
   unfolding in_range
-  shut r h = each_listed (λ (n : ℕ). price_number None ≡ set n Missing) 1 2 (refl, refl) r h
+  shut r h = each_listed (λ (n : ℕ). price_number None ≡ set n None) 1 2 (refl, refl) r h
 
-  unrelieved : (r : ℕ) (s : Source) → in_range 1 5 r ≡ true → price_number None ≡ set r (Found s)
+  unrelieved : (r : ℕ) (s : Source) → in_range 1 5 r ≡ true → price_number None ≡ set r (Some s)
   unfolding in_range
-  unrelieved r s h = each_listed (λ (n : ℕ). price_number None ≡ set n (Found s)) 4 1 (refl, (refl, (refl, (refl, refl)))) r h
+  unrelieved r s h = each_listed (λ (n : ℕ). price_number None ≡ set n (Some s)) 4 1 (refl, (refl, (refl, (refl, refl)))) r h
 
-  undone : (r : ℕ) (s : Source) → in_range 11 13 r ≡ true → price_number None ≡ set r (Found s)
+  undone : (r : ℕ) (s : Source) → in_range 11 13 r ≡ true → price_number None ≡ set r (Some s)
   unfolding in_range
-  undone r s h = each_listed (λ (n : ℕ). price_number None ≡ set n (Found s)) 2 11 (refl, (refl, refl)) r h
+  undone r s h = each_listed (λ (n : ℕ). price_number None ≡ set n (Some s)) 2 11 (refl, (refl, refl)) r h
 
-  repriced : (way : Way) (s : Source) (r : ℕ) (p : Mills) → Grounds f way s r p → p.0 ≡ set r (Found s)
+  repriced : (way : Way) (s : Source) (r : ℕ) (p : Mills) → Grounds f way s r p → p.0 ≡ set r (Some s)
   repriced way s r p g =
       ⊎_elim
       (λ c. rw c.0 (ap price_number (sym (heeded_price f way p c.1))))

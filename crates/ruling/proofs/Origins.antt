@@ -10,7 +10,7 @@ use Rattle.facts.specs.Numbers.{price_number}
 use Rattle.theory.specs.Theory.{quote_for, theory_of, theory_number, or_else, theory_origin, origin_among}
 use Rattle.theory.proofs.Prices.{theory_number_lem, theory_origin_lem}
 use Rattle.theory.proofs.Origins as theory
-use Rattle.ruling.specs.Words.{Mills, Contracts, None, Facts, Way, Source, Theory, Found, Missing, Ruling}
+use Rattle.ruling.specs.Words.{Mills, Contracts, None, Facts, Way, Source, Theory, Some, Ruling}
 use Rattle.ruling.specs.Ruling.{ruling_of}
 use Rattle.ruling.specs.Numbers.{quote_in, theory_in, not_looked_for}
 use Rattle.ruling.specs.Origins.{tp_of, origin_of, OfQuote, OfOfficial, Without, Exactly}
@@ -22,7 +22,7 @@ adjusting f way s r p g = ⊎_elim (λ c. (omega (arith, c.0), omega (arith, c.0
 
 module _ (f : Facts) where
   abbrev Told : Ruling → Type 0
-  Told r = r.tp ≡ pick (not_looked_for r.reason) Missing (theory_in f)
+  Told r = r.tp ≡ pick (not_looked_for r.reason) None (theory_in f)
 
   pub tp_told : Told (ruling_of f)
   unfolding in_range
@@ -38,7 +38,7 @@ module _ (f : Facts) where
   abbrev shut : Bool
   shut = not_looked_for (ruling_of f).reason
 
-  either_number : (number : Theory → ℕ) (b : Bool) (t : Theory) → number (pick b Missing t) ≡ pick b (number Missing) (number t)
+  either_number : (number : Theory → ℕ) (b : Bool) (t : Theory) → number (pick b None t) ≡ pick b (number None) (number t)
   either_number number true t = refl
   either_number number false t = refl
 
@@ -84,7 +84,7 @@ module _ (f : Facts) where
   other r a b c (inr (inr e)) = c e
 
   -- where there is a TP, neither
-  told : (s : Source) (r : ℕ) → (Without r → ⊥) → Exactly (theory_origin (Found s) ≡ 0) (Without r)
+  told : (s : Source) (r : ℕ) → (Without r → ⊥) → Exactly (theory_origin (Some s) ≡ 0) (Without r)
   told s r never = (λ e. absurd (theory.found_numbered s e), λ w. absurd (never w))
 
   -- 2 and 3 are no reasons to leave a trade whose TP was found

@@ -13,7 +13,7 @@ use Rattle.act.specs.Minimum.{minimum_of}
 use Rattle.act.specs.Act.{act_of}
 use Rattle.act.specs.Numbers.{act_outcome, act_reason, fits}
 use Rattle.act.proofs.Reasons.{act_told}
-use Rattle.ruling.specs.Words.{Mills, Facts, Way, Obvious, Opening, Catastrophic, Open, By, Closed, Source, Theory, Found, Missing, Heeded, Ignored, Repriced, Undone, Act, Adjust, Nullify, Leave, Ruling}
+use Rattle.ruling.specs.Words.{Mills, Facts, Way, Obvious, Opening, Catastrophic, Open, Some, None, Source, Theory, Heeded, Ignored, Repriced, Undone, Act, Adjust, Nullify, Leave, Ruling}
 use Rattle.ruling.specs.Ruling.{no_relief, waiting, nullify, adjust, carried_out, settled, ruled_at, ruled_from, ruled_on, ruled_by, ruled_if, ruling_of}
 use Rattle.ruling.specs.Numbers.{way_in, theory_in, not_looked_for}
 
@@ -31,18 +31,18 @@ heeded_at f way = heeded_of f.settlement way (any_customer f.buyer.kind f.seller
 
 -- ---- the grounds of an adjustment: the way is open, TP was found, the trade is in error, and the price is the agreed one or the act's
 pub record Grounds (f : Facts) (way : Way) (s : Source) (reason : ℕ) (price : Mills) : Type 0 where
-  pub opened : way_in f ≡ By way
-  pub found : theory_in f ≡ Found s
+  pub opened : way_in f ≡ Some way
+  pub found : theory_in f ≡ Some s
   pub error : InError f way s
   pub cause : ((reason ≡ 10) × (heeded_at f way ≡ Repriced price)) ⊎ ((in_range 6 9 reason ≡ true) × (act_at f way s ≡ Adjust (record { reason = reason; price = price })))
 
 module _ (f : Facts) (P : Ruling → Type 0)
-    (shut : (r : ℕ) → not_looked_for r ≡ true → P (no_relief f.trade r Missing))
-    (wait : theory_in f ≡ Missing → P (waiting f.trade))
-    (left : (s : Source) (r : ℕ) → theory_in f ≡ Found s → in_range 1 5 r ≡ true → not_looked_for r ≡ false → P (no_relief f.trade r (Found s)))
-    (undone : (s : Source) (r : ℕ) → theory_in f ≡ Found s → in_range 11 13 r ≡ true → P (nullify f.trade r s))
+    (shut : (r : ℕ) → not_looked_for r ≡ true → P (no_relief f.trade r None))
+    (wait : theory_in f ≡ None → P (waiting f.trade))
+    (left : (s : Source) (r : ℕ) → theory_in f ≡ Some s → in_range 1 5 r ≡ true → not_looked_for r ≡ false → P (no_relief f.trade r (Some s)))
+    (undone : (s : Source) (r : ℕ) → theory_in f ≡ Some s → in_range 11 13 r ≡ true → P (nullify f.trade r s))
     (priced : (way : Way) (s : Source) (r : ℕ) (p : Mills) → Grounds f way s r p → P (adjust f.trade way s r p)) where
-  module _ (way : Way) (opened : way_in f ≡ By way) (s : Source) (found : theory_in f ≡ Found s) (error : InError f way s) where
+  module _ (way : Way) (opened : way_in f ≡ Some way) (s : Source) (found : theory_in f ≡ Some s) (error : InError f way s) where
     on_act : (a : Act) → act_at f way s ≡ a → fits (act_outcome a) (act_reason a) ≡ true → P (carried_out f.trade way s a)
     on_act (Adjust c) e h = priced way s c.reason c.price (record { opened = opened; found = found; error = error; cause = inr (h, e) })
     on_act (Nullify r) e h = undone s r found (range_wider 11 12 11 13 r tt tt h)
@@ -54,25 +54,25 @@ module _ (f : Facts) (P : Ruling → Type 0)
     on_agreement Undone e = undone s 13 found refl
     on_agreement Ignored e = on_act (act_at f way s) refl (act_told way f.request.side f.buyer f.seller (accepted_in_time f.settlement.accepted) s.price (band_of s.price)).0
 
-  on_way : (way : Way) → way_in f ≡ By way → P (ruled_on f way)
+  on_way : (way : Way) → way_in f ≡ Some way → P (ruled_on f way)
   unfolding ruled_on ruled_at in_range
   on_way way opened = from (theory_in f) refl where
     from : (t : Theory) → theory_in f ≡ t → P (ruled_from f way t)
-    from (Found s) e =
-        either P (in_error f.request.side f.trade.price s.price (minimum_of way (band_of s.price))) (settled f way s (heeded_at f way)) (no_relief f.trade 1 (Found s))
+    from (Some s) e =
+        either P (in_error f.request.side f.trade.price s.price (minimum_of way (band_of s.price))) (settled f way s (heeded_at f way)) (no_relief f.trade 1 (Some s))
         (λ h. on_agreement way opened s e h (heeded_at f way) refl)
         (λ h. left s 1 e refl refl)
-    from Missing e = wait e
+    from None e = wait e
 
-  by_way : (way : Way) → way_in f ≡ By way → P (ruled_by f way)
+  by_way : (way : Way) → way_in f ≡ Some way → P (ruled_by f way)
   unfolding ruled_by in_range
   by_way Obvious opened = on_way Obvious opened
   by_way Opening opened = on_way Opening opened
-  by_way Catastrophic opened = either P f.request.decided (no_relief f.trade 3 Missing) (ruled_on f Catastrophic) (λ h. shut 3 refl) (λ h. on_way Catastrophic opened)
+  by_way Catastrophic opened = either P f.request.decided (no_relief f.trade 3 None) (ruled_on f Catastrophic) (λ h. shut 3 refl) (λ h. on_way Catastrophic opened)
 
   pub each_ruling : P (ruling_of f)
   unfolding ruling_of in_range
   each_ruling = if_open (way_in f) refl where
     if_open : (o : Open) → way_in f ≡ o → P (ruled_if f o)
-    if_open (By way) e = by_way way e
-    if_open Closed e = shut 2 refl
+    if_open (Some way) e = by_way way e
+    if_open None e = shut 2 refl

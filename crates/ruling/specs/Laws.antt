@@ -4,7 +4,7 @@ use Rattle.wire.specs.Tests.{in_range}
 use Rattle.bands.specs.Between.{Between}
 use Rattle.theory.specs.Theory.{theory_price}
 use Rattle.act.specs.Numbers.{IfPriced}
-use Rattle.ruling.specs.Words.{Mills, Price, At, None, Counts, Ruling}
+use Rattle.ruling.specs.Words.{Mills, Price, Some, None, Counts, Ruling}
 use Rattle.ruling.specs.Outcomes.{new_price, counts_of}
 
 -- the contracts adjusted, nullified and standing together
@@ -13,8 +13,8 @@ total c = c.adjusted.0 + c.nullified.0 + c.standing.0
 
 -- a new price lies between TP and execution, ends included; an adjusted ruling always has its TP
 abbrev pub between_if : Mills → Price → Price → Type 0
-between_if execution (At tp) (At p) = Between tp p execution
-between_if execution None (At p) = ⊥
+between_if execution (Some tp) (Some p) = Between tp p execution
+between_if execution None (Some p) = ⊥
 between_if execution tp None = Unit {0}
 
 -- A price set for the reasons 6 to 9 lies between TP and execution.

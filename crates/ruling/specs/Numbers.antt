@@ -7,7 +7,7 @@ use Rattle.parties.specs.Parties.{by_side}
 use Rattle.way.specs.Way.{way_of}
 use Rattle.theory.specs.Theory.{trusted_price, theory_of, theory_number, or_else, theory_origin, origin_among}
 use Rattle.act.specs.Numbers.{price_for}
-use Rattle.ruling.specs.Words.{Contracts, Price, None, Side, Facts, Open, By, Closed, Theory, Found, Missing, Ruling}
+use Rattle.ruling.specs.Words.{Contracts, Price, None, Side, Facts, Open, Some, Theory, Ruling}
 use Rattle.ruling.specs.Counts.{covered}
 use Rattle.reasons.specs.Reasons.{reason_outcome}
 use Rattle.ruling.specs.Outcomes.{outcome_number, new_price, counts_of}
@@ -15,8 +15,8 @@ use Rattle.ruling.specs.Laws.{SumsTo}
 
 -- the price that an act sets for a reason at a TP; where there is no TP, none
 abbrev pub act_price_at : ℕ → Side → Theory → ℕ
-act_price_at reason side (Found s) = price_for reason side s.price (band_of s.price)
-act_price_at reason side Missing = price_number None
+act_price_at reason side (Some s) = price_for reason side s.price (band_of s.price)
+act_price_at reason side None = price_number None
 
 -- The new price by the reason: the agreed one for 10, the act's for 6 to 9, none for every other.
 abbrev pub new_price_for : Facts → Ruling → ℕ
@@ -40,9 +40,9 @@ not_looked_for reason = in_range 2 3 reason
 
 -- The contracts that an adjustment covers, by the way that is open and the origin of TP (RULE R9); where either is missing there is none.
 abbrev pub cover_for : Contracts → Open → Theory → ℕ
-cover_for n (By way) (Found s) = (covered way s.origin n).0
-cover_for n (By way) Missing = 0
-cover_for n Closed t = 0
+cover_for n (Some way) (Some s) = (covered way s.origin n).0
+cover_for n (Some way) None = 0
+cover_for n None t = 0
 
 pub record InNumbers (f : Facts) (r : Ruling) : Type 0 where
   -- the outcome is that of the reason

@@ -1,6 +1,6 @@
 -- The page's numbers and values for a ruling (RULE R10.1).
 use Rattle.std.specs.Prelude.{ℕ}
-use Rattle.ruling.specs.Words.{Price, At, None, Counts, Outcome, NoRelief, Adjusted, Nullified, Waiting}
+use Rattle.ruling.specs.Words.{Price, Some, None, Counts, Outcome, NoRelief, Adjusted, Nullified, Waiting}
 
 -- the outcome: 0 no relief, 1 adjusted, 2 nullified, 3 waiting
 abbrev pub outcome_number : Outcome → ℕ
@@ -12,7 +12,7 @@ outcome_number (Waiting c) = 3
 -- the new price, none unless adjusted
 abbrev pub new_price : Outcome → Price
 new_price (NoRelief c) = None
-new_price (Adjusted a) = At a.price
+new_price (Adjusted a) = Some a.price
 new_price (Nullified c) = None
 new_price (Waiting c) = None
 

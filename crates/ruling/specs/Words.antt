@@ -1,10 +1,9 @@
 -- The declared types and their cases, passed on under their own names: those of the floors below that stand here, then our own.
+pub use Rattle.std.specs.Prelude.{Some, None}
 pub use Rattle.facts.specs.declared.Mills.{Mills}
 pub use Rattle.facts.specs.declared.Contracts.{Contracts}
-pub use Rattle.facts.specs.declared.Price.{Price}
-pub use Rattle.facts.specs.declared.Price.TheVariants.{At, None}
-pub use Rattle.facts.specs.declared.Moment.{Moment}
-pub use Rattle.facts.specs.declared.Moment.TheVariants.{After, Never}
+pub use Rattle.facts.specs.Words.{Price}
+pub use Rattle.facts.specs.Words.{Moment}
 pub use Rattle.facts.specs.declared.Side.{Side}
 pub use Rattle.facts.specs.declared.Side.TheVariants.{Buy, Sell}
 pub use Rattle.facts.specs.declared.Kind.{Kind}
@@ -23,13 +22,11 @@ pub use Rattle.facts.specs.declared.Facts.{Facts}
 pub use Rattle.bands.specs.declared.Band.{Band}
 pub use Rattle.way.specs.declared.Way.{Way}
 pub use Rattle.way.specs.declared.Way.TheVariants.{Obvious, Opening, Catastrophic}
-pub use Rattle.way.specs.declared.Open.{Open}
-pub use Rattle.way.specs.declared.Open.TheVariants.{By, Closed}
+pub use Rattle.way.specs.Words.{Open}
 pub use Rattle.theory.specs.declared.Origin.{Origin}
 pub use Rattle.theory.specs.declared.Origin.TheVariants.{Quoted, Official}
 pub use Rattle.theory.specs.declared.Source.{Source}
-pub use Rattle.theory.specs.declared.Theory.{Theory}
-pub use Rattle.theory.specs.declared.Theory.TheVariants.{Found, Missing}
+pub use Rattle.theory.specs.Words.{Theory}
 pub use Rattle.agreement.specs.declared.Heeded.{Heeded}
 pub use Rattle.agreement.specs.declared.Heeded.TheVariants.{Ignored, Repriced, Undone}
 pub use Rattle.act.specs.declared.Act.{Act}

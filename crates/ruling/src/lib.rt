@@ -13,8 +13,8 @@ ghost use Rattle.ruling.specs.Numbers.{InNumbers};
 use act::Act;
 use agreement::Heeded;
 use facts::{Contracts, Mills, Trade};
-use theory::{Origin, Source, Theory};
-use way::{Open, Way};
+use theory::{Origin, Source};
+use way::Way;
 
 // How many contracts are adjusted, nullified and left standing.
 #[derive(Clone, Copy)]
@@ -43,7 +43,7 @@ pub struct Ruling {
     pub trade: u32,
     pub outcome: Outcome,
     pub reason: u8,
-    pub tp: Theory,
+    pub tp: Option<Source>,
 }
 
 // ---- contracts
@@ -83,7 +83,7 @@ fn rest_of(contracts: Contracts, taken: Contracts) -> Contracts
 
 // ---- the four outcomes
 
-fn no_relief(trade: Trade, reason: u8, tp: Theory) -> Ruling
+fn no_relief(trade: Trade, reason: u8, tp: Option<Source>) -> Ruling
     ensures { result ≡ no_relief trade reason tp }
 {
     let contracts = trade.contracts;
@@ -111,7 +111,7 @@ fn wait(trade: Trade) -> Ruling
             standing: contracts,
         }),
         reason: 14,
-        tp: Theory::Missing,
+        tp: None,
     }
 }
 
@@ -127,7 +127,7 @@ fn nullify(trade: Trade, reason: u8, source: Source) -> Ruling
             standing: Contracts(0),
         }),
         reason: reason,
-        tp: Theory::Found(source),
+        tp: Some(source),
     }
 }
 
@@ -149,7 +149,7 @@ fn adjust(trade: Trade, way: Way, source: Source, reason: u8, price: Mills) -> R
             },
         }),
         reason: reason,
-        tp: Theory::Found(source),
+        tp: Some(source),
     }
 }
 
@@ -164,7 +164,7 @@ fn carry_out(trade: Trade, way: Way, source: Source, act: Act) -> Ruling
             adjust(trade, way, source, change.reason, price)
         }
         Act::Nullify(reason) => nullify(trade, reason, source),
-        Act::Leave(reason) => no_relief(trade, reason, Theory::Found(source)),
+        Act::Leave(reason) => no_relief(trade, reason, Some(source)),
     }
 }
 
@@ -207,7 +207,7 @@ fn rule_at(case: &[u8], way: Way, source: Source) -> Ruling
         let heeded = agreement::heed(record::settlement_of(case), way, customer);
         return settle(case, way, source, heeded);
     }
-    no_relief(trade, 1, Theory::Found(source))
+    no_relief(trade, 1, Some(source))
 }
 
 // The theoretical price, then the error; where no one gave a price the case waits.
@@ -218,7 +218,7 @@ fn rule_on(case: &[u8], way: Way) -> Ruling
     let request = record::request_of(case);
     let side = request.side;
     let found = theory::find_theory(forms::form_of(case), side, record::market_of(case));
-    let Theory::Found(source) = found else {
+    let Some(source) = found else {
         return wait(record::trade_of(case));
     };
     rule_at(case, way, source)
@@ -231,7 +231,7 @@ fn rule_by(case: &[u8], way: Way) -> Ruling
     if let Way::Catastrophic = way {
         let request = record::request_of(case);
         if request.decided {
-            return no_relief(record::trade_of(case), 3, Theory::Missing);
+            return no_relief(record::trade_of(case), 3, None);
         }
     }
     rule_on(case, way)
@@ -250,7 +250,7 @@ pub fn rule(case: &[u8]) -> Ruling
     let seller = record::seller_kind(case);
     let kind = parties::kind_in_error(side, buyer, seller);
     match way::find_way(executed, request, kind) {
-        Open::By(way) => rule_by(case, way),
-        Open::Closed => no_relief(trade, 2, Theory::Missing),
+        Some(way) => rule_by(case, way),
+        None => no_relief(trade, 2, None),
     }
 }

@@ -12,7 +12,7 @@ use borrow.Author.Tests.{le-leb, leb-true, ltb-true, ltb-false}
 use Rattle.wire.specs.Tests.{pick, in_range}
 use Rattle.wire.proofs.Tests.{range_in, range_low, range_high, both_true}
 use Rattle.text.specs.Text.{all_digits, value_from}
-use Rattle.spelling.specs.Words.{Typed, Seconds, NoTime}
+use Rattle.spelling.specs.Words.{Typed, Some, None}
 use Rattle.spelling.specs.Times.{count_in}
 
 -- ---- digits one by one, up to the largest number of four bytes
@@ -30,9 +30,9 @@ saturated m (b ∷ w) =
 
 -- what a number says whose first digits said n, and of which w is left
 abbrev pub count_from : ℕ → List ℕ → Typed
-count_from n w = pick (all_digits w) (Seconds (min (value_from n w) top)) NoTime
+count_from n w = pick (all_digits w) (Some (min (value_from n w) top)) None
 
-pub count_empty : (w : List ℕ) → length w ≡ 0 → NoTime ≡ count_in w
+pub count_empty : (w : List ℕ) → length w ≡ 0 → None ≡ count_in w
 unfolding count_in
 count_empty w h = rw h
 
@@ -41,8 +41,8 @@ unfolding count_in
 count_whole [] h = absurd (h refl)
 count_whole (b ∷ w) h = rw (le-leb 1 (length (b ∷ w)) (omega arith))
 
-pub count_end : (w : List ℕ) (i n : ℕ) → length w ≤ i → n ≤ top → Seconds n ≡ count_from n (drop i w)
-count_end w i n h k = rw (drop_of_length-le w {i = i} h) (ap Seconds (let e : n ≡ min n top = omega arith in e))
+pub count_end : (w : List ℕ) (i n : ℕ) → length w ≤ i → n ≤ top → Some n ≡ count_from n (drop i w)
+count_end w i n h k = rw (drop_of_length-le w {i = i} h) (ap Some (let e : n ≡ min n top = omega arith in e))
 
 -- the test of one byte, as the code asks it: below `0` or above `9`
 off_range : (b : ℕ) → (ltb b 48 || ltb 57 b) ≡ true → in_range 48 57 b ≡ false
@@ -64,7 +64,7 @@ module _ (w : List ℕ) (i n : ℕ) (h : i < length w) where
       let b = on_range (get_or w i 0) e in
       rw (drop-cons w i 0 h, range_in 48 57 (get_or w i 0) b.0 (omega arith), add-one, saturated)
 
-  pub count_off : (ltb (get_or w i 0) 48 || ltb 57 (get_or w i 0)) ≡ true → NoTime ≡ count_from n (drop i w)
+  pub count_off : (ltb (get_or w i 0) 48 || ltb 57 (get_or w i 0)) ≡ true → None ≡ count_from n (drop i w)
   count_off e = rw (drop-cons w i 0 h, off_range (get_or w i 0) e)
 
 -- ---- two digits

@@ -9,7 +9,7 @@ use lib.ListN.{length, get_or}
 use lib.Dec.{eqb}
 use borrow.Author.Tests.{le-leb, eq-eqb, ne_eqb}
 use Rattle.wire.proofs.Tests.{range_in}
-use Rattle.spelling.specs.Words.{Seconds}
+use Rattle.spelling.specs.Words.{Some}
 use Rattle.spelling.specs.Times.{two_digits, clock_of, clock_in, count_in, has_colons, time_in, tens, ones, clock_text, time_text}
 
 -- ---- which reading
@@ -37,14 +37,14 @@ two_back n h =
     let e : (tens n - 48) * 10 + (ones n - 48) ≡ n = omega arith in
     rw (range_in 48 57 (tens n) (omega arith) (omega arith), range_in 48 57 (ones n) (omega arith) (omega arith)) e
 
-clock_back : (h m s : ℕ) → h ≤ 99 → m ≤ 59 → s ≤ 59 → time_in (clock_text h m s) ≡ Seconds (h * 3600 + m * 60 + s)
+clock_back : (h m s : ℕ) → h ≤ 99 → m ≤ 59 → s ≤ 59 → time_in (clock_text h m s) ≡ Some (h * 3600 + m * 60 + s)
 unfolding time_in has_colons clock_in clock_of
 clock_back h m s a b c =
     rw (two_back h a, two_back m (omega arith), two_back s (omega arith), le-leb h 99 a, le-leb m 59 b, le-leb s 59 c)
 
-pub time_back : (n : ℕ) → n ≤ 86399 → time_in (time_text n) ≡ Seconds n
+pub time_back : (n : ℕ) → n ≤ 86399 → time_in (time_text n) ≡ Some n
 unfolding time_text
 time_back n h =
     let d = div-div-eq-div-mul n 60 60 in
     let e : n / 3600 * 3600 + n / 60 % 60 * 60 + n % 60 ≡ n = omega arith in
-    clock_back (n / 3600) (n / 60 % 60) (n % 60) (omega arith) (omega arith) (omega arith) ∙ ap Seconds e
+    clock_back (n / 3600) (n / 60 % 60) (n % 60) (omega arith) (omega arith) (omega arith) ∙ ap Some e

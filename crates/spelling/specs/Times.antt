@@ -2,7 +2,7 @@
 use Rattle.std.specs.Prelude.{ℕ, ◌+◌, ◌-◌, ◌*◌, ◌/◌, ◌%◌, min, Bool, ◌&&◌, List, [], ◌∷◌, length, get_or, leb, eqb}
 use Rattle.wire.specs.Tests.{pick, in_range}
 use Rattle.text.specs.Text.{digit, all_digits, value_of}
-use Rattle.spelling.specs.Words.{Typed, Seconds, NoTime}
+use Rattle.spelling.specs.Words.{Typed, Some, None}
 
 -- ---- a time read
 
@@ -13,7 +13,7 @@ two_digits a b = pick (in_range 48 57 a && in_range 48 57 b) ((a - 48) * 10 + (b
 -- hours, minutes and seconds in seconds: hours 00 to 99, minutes and seconds 00 to 59. 24:00:00 is 86,400 seconds: whether that is a time of
 -- day is for the caller to say
 unfoldable pub clock_of : ℕ → ℕ → ℕ → Typed
-clock_of h m s = pick ((leb h 99 && leb m 59) && leb s 59) (Seconds (h * 3600 + m * 60 + s)) NoTime
+clock_of h m s = pick ((leb h 99 && leb m 59) && leb s 59) (Some (h * 3600 + m * 60 + s)) None
 
 -- the hours in the first two of eight bytes, the minutes in the fourth and fifth, the seconds in the last two
 unfoldable pub clock_in : List ℕ → Typed
@@ -21,7 +21,7 @@ clock_in w = clock_of (two_digits (get_or w 0 0) (get_or w 1 0)) (two_digits (ge
 
 -- seconds as a number: one digit or more and nothing else, and a number above 4,294,967,295 is given as 4,294,967,295
 unfoldable pub count_in : List ℕ → Typed
-count_in w = pick (leb 1 (length w) && all_digits w) (Seconds (min (value_of w) 4294967295)) NoTime
+count_in w = pick (leb 1 (length w) && all_digits w) (Some (min (value_of w) 4294967295)) None
 
 -- eight bytes, the third and the sixth of them a colon
 unfoldable pub has_colons : List ℕ → Bool

@@ -1,5 +1,8 @@
 -- The declared types and their cases, passed on under their own names: the facts' that stand here, then our own.
-pub use Rattle.facts.specs.declared.Price.{Price}
-pub use Rattle.facts.specs.declared.Price.TheVariants.{At, None}
-pub use Rattle.spelling.specs.declared.Typed.{Typed}
-pub use Rattle.spelling.specs.declared.Typed.TheVariants.{Seconds, NoTime}
+use Rattle.std.specs.Prelude.{ℕ, Option}
+pub use Rattle.std.specs.Prelude.{Some, None}
+pub use Rattle.facts.specs.Words.{Price}
+
+-- The seconds that are typed, or no time.
+abbrev pub Typed : Type 0
+Typed = Option ℕ

@@ -7,14 +7,7 @@ ghost use Rattle.text.specs.Text.{laid_at};
 ghost use Rattle.spelling.specs.Times.{two_digits, clock_of, clock_in, count_in, time_in, clock_text, time_text};
 ghost use Rattle.spelling.specs.Dollars.{decimals, mills_text, dollars_text};
 
-use facts::Price;
-
-// What a word says where a time is asked.
-#[derive(Clone, Copy)]
-pub enum Typed {
-    Seconds(u32),
-    NoTime,
-}
+use facts::Mills;
 
 // ---- a time read
 
@@ -27,16 +20,16 @@ fn two_digits(a: u8, b: u8) -> u8
     100
 }
 
-fn clock_of(h: u8, m: u8, s: u8) -> Typed
+fn clock_of(h: u8, m: u8, s: u8) -> Option<u32>
     ensures { result ≡ clock_of h m s }
 {
     if (h <= 99) & (m <= 59) & (s <= 59) {
-        return Typed::Seconds((h as u32) * 3600 + (m as u32) * 60 + (s as u32));
+        return Some((h as u32) * 3600 + (m as u32) * 60 + (s as u32));
     }
-    Typed::NoTime
+    None
 }
 
-fn read_clock(w: &[u8]) -> Typed
+fn read_clock(w: &[u8]) -> Option<u32>
     requires { length w.now ≡ 8 }
     ensures { result ≡ clock_in w.now }
 {
@@ -59,27 +52,27 @@ fn push(n: u64, b: u8) -> u64
     m
 }
 
-fn read_count(w: &[u8]) -> Typed
+fn read_count(w: &[u8]) -> Option<u32>
     ensures { result ≡ count_in w.now }
 {
     if w.len() == 0 {
-        return Typed::NoTime;
+        return None;
     }
     let mut n: u64 = 0;
     let mut i = 0;
     while i < w.len() {
         let b = w[i];
         if (b < 48) | (57 < b) {
-            return Typed::NoTime;
+            return None;
         }
         n = push(n, b);
         i += 1;
     }
-    Typed::Seconds(n as u32)
+    Some(n as u32)
 }
 
 // The seconds that a word says, typed as HH:MM:SS or as a number.
-pub fn read_time(w: &[u8]) -> Typed
+pub fn read_time(w: &[u8]) -> Option<u32>
     ensures { result ≡ time_in w.now }
 {
     if w.len() == 8 {
@@ -139,12 +132,12 @@ fn add_mills(out: &mut [u8], at: usize, n: u32) -> usize
 }
 
 // A price in dollars with three decimals, or `none`.
-pub fn add_dollars(out: &mut [u8], at: usize, p: Price) -> usize
+pub fn add_dollars(out: &mut [u8], at: usize, p: Option<Mills>) -> usize
     requires { at + 14 ≤ length out.old }
     ensures { (result ≡ at + length (dollars_text p)) × (out.new ≡ laid_at at (dollars_text p) out.old) × (result ≤ at + 14) }
 {
     match p {
-        Price::At(m) => add_mills(out, at, m.0),
-        Price::None => text::add_word(out, at, b"none"),
+        Some(m) => add_mills(out, at, m.0),
+        None => text::add_word(out, at, b"none"),
     }
 }

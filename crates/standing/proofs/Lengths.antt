@@ -15,7 +15,7 @@ use Rattle.best.specs.Lasts.{last_of}
 use Rattle.best.specs.Examined.{examined_in}
 use Rattle.best.specs.Found.{best_in, found_of}
 use Rattle.best_lines.proofs.Lengths.{head_most, sayer_most}
-use Rattle.standing.specs.Words.{Quote, Posted, Half, Bid, Offer, Typed, Seconds, NoTime}
+use Rattle.standing.specs.Words.{Quote, Posted, Half, Bid, Offer, Typed, Some, None}
 use Rattle.standing.specs.Standing.{sayer_of, born_text, before_line, read_line, standing_text, lookup_line, found_text, best_text}
 
 born_most : (h : Half) (best : Quote) (qs : List Posted) → length (born_text h best qs) ≤ 825
@@ -53,5 +53,5 @@ found_most s t =
 
 pub text_most : (s : List ℕ) (typed : Typed) → length (best_text s typed) ≤ 4096
 unfolding best_text
-text_most s (Seconds t) = omega (arith, found_most s t)
-text_most s NoTime = omega arith
+text_most s (Some t) = omega (arith, found_most s t)
+text_most s None = omega arith

@@ -13,7 +13,7 @@ use Rattle.best.specs.Examined.{examined_in}
 use Rattle.best.specs.Best.{said_by}
 use Rattle.best.specs.Found.{best_in, found_of}
 use Rattle.best_lines.specs.BestLines.{head_line, sayer_line}
-use Rattle.standing.specs.Words.{Price, Quote, Posted, Half, Bid, Offer, Last, Typed, Seconds, NoTime}
+use Rattle.standing.specs.Words.{Price, Quote, Posted, Half, Bid, Offer, Last, Typed, Some, None}
 
 -- the line of exchange k + 1, by its last quote among these
 abbrev pub sayer_of : Half → Price → List Posted → ℕ → List ℕ
@@ -58,5 +58,5 @@ found_text s t = pick (eqb (found_of s t).refusal 0) (standing_text t (earlier t
 
 -- at the time that was typed; a word that is none is told how one is written
 unfoldable pub best_text : List ℕ → Typed → List ℕ
-best_text s (Seconds t) = found_text s t
-best_text s NoTime = letters "NO TIME: write it as 09:30:00, or in seconds since midnight" ++ (10 ∷ [])
+best_text s (Some t) = found_text s t
+best_text s None = letters "NO TIME: write it as 09:30:00, or in seconds since midnight" ++ (10 ∷ [])

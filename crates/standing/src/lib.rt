@@ -11,9 +11,8 @@ ghost use Rattle.quotes.specs.Quotes.{posted_in};
 ghost use Rattle.earlier.specs.Earlier.{earlier};
 ghost use Rattle.standing.specs.Standing.{sayers_text, born_text, before_line, read_line, lookup_line, found_text, best_text};
 
-use facts::{Price, Quote};
+use facts::{Mills, Quote};
 use halves::Half;
-use spelling::Typed;
 
 // The lines of the exchanges at the price, 1 to 16.
 fn add_sayers(
@@ -22,7 +21,7 @@ fn add_sayers(
     quotes: &[u8],
     time: u32,
     half: Half,
-    price: Price,
+    price: Option<Mills>,
 ) -> usize
     requires { at + 784 ≤ length out.old }
     ensures { (result ≡ at + length (sayers_text half price (earlier time (posted_in quotes.now)))) × (out.new ≡ laid_at at (sayers_text half price (earlier time (posted_in quotes.now))) out.old) × (result ≤ at + 784) }
@@ -101,8 +100,8 @@ pub fn print_best(quotes: &[u8], time: &[u8], out: &mut [u8; 4096]) -> usize
 {
     let typed = spelling::read_time(time);
     match typed {
-        Typed::Seconds(t) => put_found(out, quotes, t),
-        Typed::NoTime => text::add_word(
+        Some(t) => put_found(out, quotes, t),
+        None => text::add_word(
             out,
             0,
             b"NO TIME: write it as 09:30:00, or in seconds since midnight\n",

@@ -1,6 +1,6 @@
 -- The rows of a ruled case (RULE R17.4): the head, each step that was reached, the contracts.
 use Rattle.std.specs.Prelude.{List, [], ◌∷◌, ◌++◌}
-use Rattle.step_lines.specs.Words.{Mills, Side, Clock, Settled, AfterError, NotOff, InError, Judged, Reached, Late, Decided, Unpriced, Priced, Steps, Figures, Piece}
+use Rattle.step_lines.specs.Words.{Mills, Side, Clock, Settled, AfterError, None, Some, Judged, Reached, Late, Decided, Unpriced, Priced, Steps, Figures, Piece}
 use Rattle.step_lines.specs.Way.{way_rows, panel_row}
 use Rattle.step_lines.specs.Theory.{spread_rows, source_row, unpriced_rows}
 use Rattle.step_lines.specs.Error.{error_row}
@@ -14,8 +14,8 @@ settled_rows side tp g = agreement_row g ∷ end_rows side tp g.end
 
 -- after the error: nothing where there is none
 abbrev pub after_rows : Side → Mills → AfterError → List (List Piece)
-after_rows side tp NotOff = []
-after_rows side tp (InError g) = settled_rows side tp g
+after_rows side tp None = []
+after_rows side tp (Some g) = settled_rows side tp g
 
 unfoldable pub judged_rows : Side → Judged → List (List Piece)
 judged_rows side j =

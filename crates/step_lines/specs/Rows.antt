@@ -1,14 +1,14 @@
 -- Values that rows share, and the places of what stands on the one side or the other (RULE R2.6).
 use Rattle.parties.specs.Parties.{by_side}
 use Rattle.words.specs.Pieces.{bytes_at}
-use Rattle.step_lines.specs.Words.{Mills, Seconds, Price, At, Moment, After, Side, Place, Value, Dollars, Lapse}
+use Rattle.step_lines.specs.Words.{Mills, Seconds, Price, Some, Moment, Side, Place, Value, Dollars, Lapse}
 
 -- a price that is there; seconds that have passed
 abbrev pub money : Mills → Value
-money m = Dollars (At m)
+money m = Dollars (Some m)
 
 abbrev pub passed : Seconds → Value
-passed t = Lapse (After t)
+passed t = Lapse (Some t)
 
 -- the kind and the limit of the party on a side; the quote that a side in error is held against, and its size
 abbrev pub kind_place : Side → Place

@@ -4,7 +4,7 @@ use Rattle.wire.specs.Tests.{pick}
 use Rattle.parties.specs.Parties.{by_side}
 use Rattle.words.specs.Names.{quotes_words, at_least_the_bid_words, under_the_bid_words, plus_twice_words, equals_words, wide_words, not_wide_words, tp_words, the_offer_words, the_bid_words, official_words, tp_none_words, offer_is_words, bid_is_words, rule_official_words, rule_wide_official_words, rule_unpriced_words, rule_wide_unpriced_words}
 use Rattle.words.specs.Pieces.{bytes_at, say, tell, found, blank}
-use Rattle.step_lines.specs.Words.{Side, Gap, Spread, Unasked, Asked, Looked, Origin, Quoted, Official, Source, Dollars, Piece}
+use Rattle.step_lines.specs.Words.{Side, Gap, Spread, None, Some, Looked, Origin, Quoted, Official, Source, Dollars, Piece}
 use Rattle.step_lines.specs.Rows.{money, quote_place}
 
 -- bid and offer held against the differential, where the record has one
@@ -18,12 +18,12 @@ gap_row g =
     ∷ blank ∷ blank ∷ blank ∷ blank ∷ blank ∷ []
 
 abbrev pub spread_rows : Spread → List (List Piece)
-spread_rows Unasked = []
-spread_rows (Asked g) = gap_row g ∷ []
+spread_rows None = []
+spread_rows (Some g) = gap_row g ∷ []
 
 abbrev pub is_wide : Spread → Bool
-is_wide Unasked = false
-is_wide (Asked g) = g.wide
+is_wide None = false
+is_wide (Some g) = g.wide
 
 -- the quote on the side in error as it stands
 abbrev pub quote_is : Side → Looked → Piece

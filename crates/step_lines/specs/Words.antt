@@ -1,11 +1,10 @@
 -- The declared types and their cases, passed on under their own names.
+pub use Rattle.std.specs.Prelude.{Some, None}
 pub use Rattle.facts.specs.declared.Mills.{Mills}
 pub use Rattle.facts.specs.declared.Contracts.{Contracts}
 pub use Rattle.facts.specs.declared.Seconds.{Seconds}
-pub use Rattle.facts.specs.declared.Price.{Price}
-pub use Rattle.facts.specs.declared.Price.TheVariants.{At, None}
-pub use Rattle.facts.specs.declared.Moment.{Moment}
-pub use Rattle.facts.specs.declared.Moment.TheVariants.{After, Never}
+pub use Rattle.facts.specs.Words.{Price}
+pub use Rattle.facts.specs.Words.{Moment}
 pub use Rattle.facts.specs.declared.Side.{Side}
 pub use Rattle.facts.specs.declared.Side.TheVariants.{Buy, Sell}
 pub use Rattle.facts.specs.declared.Kind.{Kind}
@@ -28,8 +27,7 @@ pub use Rattle.steps.specs.declared.AllShut.{AllShut}
 pub use Rattle.steps.specs.declared.Tried.{Tried}
 pub use Rattle.steps.specs.declared.Tried.TheVariants.{First, Second, Third, NoWay}
 pub use Rattle.steps.specs.declared.Gap.{Gap}
-pub use Rattle.steps.specs.declared.Spread.{Spread}
-pub use Rattle.steps.specs.declared.Spread.TheVariants.{Unasked, Asked}
+pub use Rattle.steps.specs.Words.{Spread}
 pub use Rattle.steps.specs.declared.Looked.{Looked}
 pub use Rattle.steps.specs.declared.Off.{Off}
 pub use Rattle.steps.specs.declared.Limit.{Limit}
@@ -41,8 +39,7 @@ pub use Rattle.steps.specs.declared.Acting.TheVariants.{OnObvious, OnOpening, On
 pub use Rattle.steps.specs.declared.End.{End}
 pub use Rattle.steps.specs.declared.End.TheVariants.{PriceCounts, NullifyCounts, Acted}
 pub use Rattle.steps.specs.declared.Settled.{Settled}
-pub use Rattle.steps.specs.declared.AfterError.{AfterError}
-pub use Rattle.steps.specs.declared.AfterError.TheVariants.{NotOff, InError}
+pub use Rattle.steps.specs.Words.{AfterError}
 pub use Rattle.steps.specs.declared.Judged.{Judged}
 pub use Rattle.steps.specs.declared.Reached.{Reached}
 pub use Rattle.steps.specs.declared.Reached.TheVariants.{Late, Decided, Unpriced, Priced}

@@ -17,12 +17,9 @@ ghost use Rattle.step_lines.specs.Act.{move_words, near_row, undone_row, obvious
 ghost use Rattle.step_lines.specs.Counts.{outcome_phrase, head_row, cover_by, cover_on, cover_of, size_piece, cover_rule, of_traded, adjusted_row, all_row, contracts_row};
 ghost use Rattle.step_lines.specs.Explained.{settled_rows, after_rows, judged_rows, reached_rows, ruled_rows};
 
-use facts::{Agreement, Contracts, Day, Mills, Moment, Price, Seconds, Side};
+use facts::{Agreement, Contracts, Day, Mills, Seconds, Side};
 use figures::Figures;
-use steps::{
-    Acting, AfterError, Clock, End, Even, Far, Gap, Judged, Limit, Looked, Near, Off, Reached,
-    Settled, Spread, Steps, Tried,
-};
+use steps::{Acting, Clock, End, Even, Far, Gap, Judged, Limit, Looked, Near, Off, Option<Gap>, Option<Settled>, Reached, Settled, Steps, Tried};
 use theory::{Origin, Source};
 use way::Way;
 use words::{Piece, Place, Value};
@@ -40,13 +37,13 @@ pub enum Cover {
 fn money(m: Mills) -> Value
     ensures { result ≡ money m }
 {
-    Value::Dollars(Price::At(m))
+    Value::Dollars(Some(m))
 }
 
 fn passed(t: Seconds) -> Value
     ensures { result ≡ passed t }
 {
-    Value::Lapse(Moment::After(t))
+    Value::Lapse(Some(t))
 }
 
 fn place_on(side: Side, a: Place, b: Place) -> Place
@@ -445,12 +442,12 @@ fn gap_row(gap: Gap) -> [Piece; 10]
     ]
 }
 
-fn is_wide(spread: Spread) -> bool
+fn is_wide(spread: Option<Gap>) -> bool
     ensures { result ≡ is_wide spread }
 {
     match spread {
-        Spread::Unasked => false,
-        Spread::Asked(gap) => gap.wide,
+        None => false,
+        Some(gap) => gap.wide,
     }
 }
 
@@ -656,7 +653,7 @@ fn none_row(settled: Settled) -> [Piece; 10]
     ]
 }
 
-fn agreed_piece(price: Price) -> Piece
+fn agreed_piece(price: Option<Mills>) -> Piece
     ensures { result ≡ agreed_piece price }
 {
     words::found(words::COMMA, Value::Dollars(price), words::bytes_at(68, 4))
@@ -1018,13 +1015,13 @@ fn add_way(out: &mut [u8], at: usize, clock: Clock, tried: Tried) -> usize
     add_before(out, next, clock, tried)
 }
 
-fn add_spread(out: &mut [u8], at: usize, spread: Spread) -> usize
+fn add_spread(out: &mut [u8], at: usize, spread: Option<Gap>) -> usize
     requires { at + 1040 ≤ length out.old }
     ensures { (result ≡ at + length (rows_text (spread_rows spread))) × (out.new ≡ laid_at at (rows_text (spread_rows spread)) out.old) × (result ≤ at + 1040) }
 {
     match spread {
-        Spread::Unasked => at,
-        Spread::Asked(gap) => words::add_row(out, at, gap_row(gap)),
+        None => at,
+        Some(gap) => words::add_row(out, at, gap_row(gap)),
     }
 }
 
@@ -1112,13 +1109,13 @@ fn add_settled(out: &mut [u8], at: usize, side: Side, tp: Mills, settled: Settle
     add_end(out, next, side, tp, end)
 }
 
-fn add_after(out: &mut [u8], at: usize, side: Side, tp: Mills, after: AfterError) -> usize
+fn add_after(out: &mut [u8], at: usize, side: Side, tp: Mills, after: Option<Settled>) -> usize
     requires { at + 5200 ≤ length out.old }
     ensures { (result ≡ at + length (rows_text (after_rows side tp after))) × (out.new ≡ laid_at at (rows_text (after_rows side tp after)) out.old) × (result ≤ at + 5200) }
 {
     match after {
-        AfterError::NotOff => at,
-        AfterError::InError(settled) => add_settled(out, at, side, tp, settled),
+        None => at,
+        Some(settled) => add_settled(out, at, side, tp, settled),
     }
 }
 

@@ -15,7 +15,7 @@ use Rattle.act.specs.Minimum.{minimum_of}
 use Rattle.act.specs.Limits.{opening_tested, opening_stopped, catastrophic_stopped}
 use Rattle.act.specs.Act.{act_of}
 use Rattle.ruling.specs.Ruling.{carried_out, settled, ruled_at, ruled_from, ruled_on, ruled_by, ruled_if, ruling_of, no_relief}
-use Rattle.steps.specs.Words.{Mills, Side, Buy, Sell, Party, Moment, Band, Seconds, Request, Kind, Facts, Way, Obvious, Opening, Catastrophic, Open, By, Closed, Source, Theory, Found, Missing, Heeded, Ignored, Repriced, Undone, Shut, AllShut, First, Second, Third, NoWay, AfterError, NotOff, InError, Decided, Priced, Trade, Act, Adjust, Nullify, Leave, End, PriceCounts, NullifyCounts, Acted, Judged, Steps}
+use Rattle.steps.specs.Words.{Mills, Side, Buy, Sell, Party, Moment, Band, Seconds, Request, Kind, Facts, Way, Obvious, Opening, Catastrophic, Open, Some, None, Source, Theory, Heeded, Ignored, Repriced, Undone, Shut, AllShut, First, Second, Third, NoWay, AfterError, Decided, Priced, Trade, Act, Adjust, Nullify, Leave, End, PriceCounts, NullifyCounts, Acted, Judged, Steps}
 use Rattle.steps.specs.Tried.{obvious_why, opening_why, catastrophic_why, tried_from, tried_of, open_of}
 use Rattle.steps.specs.Found.{error_of, limit_of, obvious_step, opening_step, catastrophic_step, act_step_of}
 use Rattle.steps.specs.Steps.{end_of, settled_of, judged_of, reached_from, reached_on, reached_by, reached_if, steps_of}
@@ -103,26 +103,26 @@ module _ (f : Facts) where
 
   from_made : (way : Way) (t : Theory) → reached_ruling f.trade (reached_from f way t) ≡ ruled_from f way t
   unfolding judged_of ruled_at error_of settled_of
-  from_made way (Found s) =
+  from_made way (Some s) =
       after_made (in_error f.request.side f.trade.price s.price (minimum_of way (band_of s.price))) way s _ _
       ∙ rw (end_made way s)
-  from_made way Missing = refl
+  from_made way None = refl
 
   on_made : (way : Way) → reached_ruling f.trade (reached_on f way) ≡ ruled_on f way
   unfolding reached_on ruled_on
   on_made way = from_made way (theory_of f.form f.request.side f.market)
 
   decided_made : (b : Bool)
-      → reached_ruling f.trade (pick b Decided (reached_on f Catastrophic)) ≡ pick b (no_relief f.trade 3 Missing) (ruled_on f Catastrophic)
+      → reached_ruling f.trade (pick b Decided (reached_on f Catastrophic)) ≡ pick b (no_relief f.trade 3 None) (ruled_on f Catastrophic)
   decided_made true = refl
   decided_made false = on_made Catastrophic
 
   if_made : (o : Open) → reached_ruling f.trade (reached_if f o) ≡ ruled_if f o
   unfolding reached_by ruled_by
-  if_made (By Obvious) = on_made Obvious
-  if_made (By Opening) = on_made Opening
-  if_made (By Catastrophic) = decided_made f.request.decided
-  if_made Closed = refl
+  if_made (Some Obvious) = on_made Obvious
+  if_made (Some Opening) = on_made Opening
+  if_made (Some Catastrophic) = decided_made f.request.decided
+  if_made None = refl
 
   pub ruling_made : ruling_from (steps_of f) ≡ ruling_of f
   unfolding ruling_from steps_of ruling_of
@@ -131,20 +131,20 @@ module _ (f : Facts) where
       if_made (open_of (tried_of f.trade.executed f.request kind)) ∙ ap (ruled_if f) (way_tried f.trade.executed f.request kind)
 
 -- ---- TP: where the steps came to one, it is the ruling's
-carried_tp : (t : Trade) (way : Way) (s : Source) (a : Act) → (carried_out t way s a).tp ≡ Found s
+carried_tp : (t : Trade) (way : Way) (s : Source) (a : Act) → (carried_out t way s a).tp ≡ Some s
 carried_tp t way s (Adjust c) = refl
 carried_tp t way s (Nullify reason) = refl
 carried_tp t way s (Leave reason) = refl
 
-end_tp : (t : Trade) (way : Way) (s : Source) (e : End) → (end_ruling t way s e).tp ≡ Found s
+end_tp : (t : Trade) (way : Way) (s : Source) (e : End) → (end_ruling t way s e).tp ≡ Some s
 end_tp t way s (PriceCounts price) = refl
 end_tp t way s NullifyCounts = refl
 end_tp t way s (Acted a) = carried_tp t way s (act_from s.price a)
 
-after_tp : (t : Trade) (way : Way) (s : Source) (a : AfterError) → (after_ruling t way s a).tp ≡ Found s
-after_tp t way s NotOff = refl
-after_tp t way s (InError g) = end_tp t way s g.end
+after_tp : (t : Trade) (way : Way) (s : Source) (a : AfterError) → (after_ruling t way s a).tp ≡ Some s
+after_tp t way s None = refl
+after_tp t way s (Some g) = end_tp t way s g.end
 
-pub tp_told : (s : Steps) (j : Judged) → s.reached ≡ Priced j → (ruling_from s).tp ≡ Found j.source
+pub tp_told : (s : Steps) (j : Judged) → s.reached ≡ Priced j → (ruling_from s).tp ≡ Some j.source
 unfolding ruling_from
 tp_told s j e = rw e (after_tp s.trade j.way j.source j.after)

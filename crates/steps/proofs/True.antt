@@ -11,7 +11,7 @@ use Rattle.bands.specs.Table.{band_of}
 use Rattle.bands.specs.Amounts.{in_error, moved_by, largest}
 use Rattle.agreement.specs.Agreed.{in_time, may_nullify, terms_of, heeded_of}
 use Rattle.act.specs.Minimum.{minimum_of}
-use Rattle.steps.specs.Words.{Mills, Side, Buy, Sell, Price, At, None, Agreement, NotMade, OnPrice, ToNullify, Settlement, Way, Heeded, Ignored, Repriced, Undone}
+use Rattle.steps.specs.Words.{Mills, Side, Buy, Sell, Price, Some, None, Agreement, NotMade, OnPrice, ToNullify, Settlement, Way, Heeded, Ignored, Repriced, Undone}
 use Rattle.steps.specs.Found.{gap_of, error_of, ignored_why, is_made, is_on_price}
 
 -- an execution is in error where the higher price is at least the sum that is shown
@@ -41,14 +41,14 @@ counts Undone = true
 abbrev pub There : Agreement → Price → Type 0
 There NotMade p = Unit {0}
 There OnPrice None = ⊥
-There OnPrice (At p) = Unit {0}
+There OnPrice (Some p) = Unit {0}
 There ToNullify p = Unit {0}
 
 by_terms : (t n : Bool) (a : Agreement) (p : Price) → There a p
     → eqb (pick (is_made a) (pick t (pick (is_on_price a || n) 0 3) 2) 1) 0 ≡ counts (pick t (terms_of a p n) Ignored)
 by_terms true n NotMade p h = refl
 by_terms false n NotMade p h = refl
-by_terms true n OnPrice (At p) h = refl
+by_terms true n OnPrice (Some p) h = refl
 by_terms true n OnPrice None h = absurd h
 by_terms false n OnPrice p h = refl
 by_terms true true ToNullify p h = refl

@@ -12,7 +12,7 @@ use Rattle.bands.specs.Amounts.{obvious_adjustment_of, in_error, moved_by, large
 use Rattle.agreement.specs.Agreed.{in_time, may_nullify, accepted_in_time}
 use Rattle.act.specs.Minimum.{minimum_of}
 use Rattle.act.specs.Limits.{opening_tested}
-use Rattle.steps.specs.Words.{Mills, Price, At, None, Side, Buy, Sell, Form, Market, Party, Moment, Agreement, NotMade, OnPrice, ToNullify, Settlement, Band, Way, Obvious, Opening, Catastrophic, Gap, Spread, Unasked, Asked, Looked, Off, Limit, Near, Even, Far, Acting, OnObvious, OnOpening, OnCatastrophic}
+use Rattle.steps.specs.Words.{Mills, Price, Some, None, Side, Buy, Sell, Form, Market, Party, Moment, Agreement, NotMade, OnPrice, ToNullify, Settlement, Band, Way, Obvious, Opening, Catastrophic, Gap, Spread, Looked, Off, Limit, Near, Even, Far, Acting, OnObvious, OnOpening, OnCatastrophic}
 
 -- ---- the quotes
 
@@ -29,10 +29,10 @@ gap_of differential bid offer =
 
 -- asked of a record with a differential where both quotes are there
 abbrev pub spread_from : Price → Price → Price → Spread
-spread_from (At differential) (At bid) (At offer) = Asked (gap_of differential bid offer)
-spread_from (At differential) (At bid) None = Unasked
-spread_from (At differential) None offer = Unasked
-spread_from None bid offer = Unasked
+spread_from (Some differential) (Some bid) (Some offer) = Some (gap_of differential bid offer)
+spread_from (Some differential) (Some bid) None = None
+spread_from (Some differential) None offer = None
+spread_from None bid offer = None
 
 -- the quote on the side in error as it stands, the official's price, and whether the quotes are too wide to trust
 unfoldable pub looked_of : Form → Side → Market → Looked

@@ -5,7 +5,7 @@ use Rattle.parties.specs.Parties.{by_side, any_customer}
 use Rattle.bands.specs.Table.{band_of}
 use Rattle.theory.specs.Theory.{theory_of}
 use Rattle.agreement.specs.Agreed.{heeded_of, agreement_time}
-use Rattle.steps.specs.Words.{Facts, Way, Obvious, Opening, Catastrophic, Open, By, Closed, Source, Theory, Found, Missing, Heeded, Ignored, Repriced, Undone, End, PriceCounts, NullifyCounts, Acted, Settled, AfterError, NotOff, InError, Judged, Reached, Late, Decided, Unpriced, Priced, Steps}
+use Rattle.steps.specs.Words.{Facts, Way, Obvious, Opening, Catastrophic, Open, Some, None, Source, Theory, Heeded, Ignored, Repriced, Undone, End, PriceCounts, NullifyCounts, Acted, Settled, AfterError, Judged, Reached, Late, Decided, Unpriced, Priced, Steps}
 use Rattle.steps.specs.Tried.{clock_of, tried_of, open_of}
 use Rattle.steps.specs.Found.{looked_of, error_of, act_step_of, ignored_why}
 
@@ -28,7 +28,7 @@ settled_of f way s =
 
 -- agreement and the act are for a trade in error alone
 abbrev pub after_of : Facts → Way → Source → Bool → AfterError
-after_of f way s wrong = pick wrong (InError (settled_of f way s)) NotOff
+after_of f way s wrong = pick wrong (Some (settled_of f way s)) None
 
 unfoldable pub judged_of : Facts → Way → Source → Judged
 judged_of f way s =
@@ -42,8 +42,8 @@ judged_of f way s =
     }
 
 abbrev pub reached_from : Facts → Way → Theory → Reached
-reached_from f way (Found s) = Priced (judged_of f way s)
-reached_from f way Missing = Unpriced (looked_of f.form f.request.side f.market)
+reached_from f way (Some s) = Priced (judged_of f way s)
+reached_from f way None = Unpriced (looked_of f.form f.request.side f.market)
 
 unfoldable pub reached_on : Facts → Way → Reached
 reached_on f way = reached_from f way (theory_of f.form f.request.side f.market)
@@ -54,8 +54,8 @@ reached_by f Opening = reached_on f Opening
 reached_by f Catastrophic = pick f.request.decided Decided (reached_on f Catastrophic)
 
 abbrev pub reached_if : Facts → Open → Reached
-reached_if f (By way) = reached_by f way
-reached_if f Closed = Late
+reached_if f (Some way) = reached_by f way
+reached_if f None = Late
 
 unfoldable pub steps_of : Facts → Steps
 steps_of f =

@@ -5,7 +5,7 @@ use Rattle.facts.specs.Numbers.{seconds}
 use Rattle.parties.specs.Parties.{is_customer}
 use Rattle.way.specs.Times.{is_trade_date, is_next_day, no_later, within}
 use Rattle.way.specs.Way.{obvious_time, opening_after, opening_by, expiry_by, next_day_by}
-use Rattle.steps.specs.Words.{Seconds, Request, Kind, Day, Clock, Tried, First, Second, Third, NoWay, Open, By, Closed, Obvious, Opening, Catastrophic}
+use Rattle.steps.specs.Words.{Seconds, Request, Kind, Day, Clock, Tried, First, Second, Third, NoWay, Open, Some, None, Obvious, Opening, Catastrophic}
 
 -- what the ways ask: the party in error, the flags, when the trade was executed and the request filed, how long that is after the
 -- execution, and how long the obvious way is open to this kind of party
@@ -63,7 +63,7 @@ tried_of executed q kind =
 
 -- the way that is open, by what was tried
 abbrev pub open_of : Tried → Open
-open_of First = By Obvious
-open_of (Second o) = By Opening
-open_of (Third w) = By Catastrophic
-open_of (NoWay w) = Closed
+open_of First = Some Obvious
+open_of (Second o) = Some Opening
+open_of (Third w) = Some Catastrophic
+open_of (NoWay w) = None

@@ -14,12 +14,9 @@ ghost use Rattle.steps.specs.Steps.{end_of, settled_of, after_of, judged_of, rea
 
 use agreement::Heeded;
 use bands::Band;
-use facts::{
-    Agreement, Day, Facts, Form, Kind, Market, Mills, Moment, Party, Price, Request, Seconds,
-    Settlement, Side, Trade,
-};
-use theory::{Source, Theory};
-use way::{Open, Way};
+use facts::{Agreement, Day, Facts, Form, Kind, Market, Mills, Option<Mills>, Option<Seconds>, Party, Request, Seconds, Settlement, Side, Trade};
+use theory::Source;
+use way::Way;
 
 // ---- the way
 
@@ -74,19 +71,12 @@ pub struct Gap {
     pub wide: bool,
 }
 
-// Whether the quotes are too wide to trust: not asked where the record has no differential, or a quote is none.
-#[derive(Clone, Copy)]
-pub enum Spread {
-    Unasked,
-    Asked(Gap),
-}
-
 // The quote on the side in error and the official's price as they stand.
 #[derive(Clone, Copy)]
 pub struct Looked {
-    pub quote: Price,
-    pub official: Price,
-    pub spread: Spread,
+    pub quote: Option<Mills>,
+    pub official: Option<Mills>,
+    pub spread: Option<Gap>,
 }
 
 // ---- the error
@@ -112,7 +102,7 @@ pub struct Off {
 pub struct Limit {
     pub side: Side,
     pub kind: Kind,
-    pub limit: Price,
+    pub limit: Option<Mills>,
     pub price: Mills,
     pub counts: bool,
     pub stopped: bool,
@@ -139,7 +129,7 @@ pub struct Far {
     pub price: Mills,
     pub buyer: Limit,
     pub seller: Limit,
-    pub accepted: Moment,
+    pub accepted: Option<Seconds>,
     pub timely: bool,
 }
 
@@ -169,12 +159,6 @@ pub struct Settled {
     pub end: End,
 }
 
-#[derive(Clone, Copy)]
-pub enum AfterError {
-    NotOff,
-    InError(Settled),
-}
-
 // ---- the whole
 
 #[derive(Clone, Copy)]
@@ -183,7 +167,7 @@ pub struct Judged {
     pub looked: Looked,
     pub source: Source,
     pub off: Off,
-    pub after: AfterError,
+    pub after: Option<Settled>,
 }
 
 #[derive(Clone, Copy)]
@@ -275,14 +259,14 @@ fn find_tried(executed: Seconds, request: Request, kind: Kind) -> Tried
     )
 }
 
-fn open_of(tried: Tried) -> Open
+fn open_of(tried: Tried) -> Option<Way>
     ensures { result ≡ open_of tried }
 {
     match tried {
-        Tried::First => Open::By(Way::Obvious),
-        Tried::Second(_) => Open::By(Way::Opening),
-        Tried::Third(_) => Open::By(Way::Catastrophic),
-        Tried::NoWay(_) => Open::Closed,
+        Tried::First => Some(Way::Obvious),
+        Tried::Second(_) => Some(Way::Opening),
+        Tried::Third(_) => Some(Way::Catastrophic),
+        Tried::NoWay(_) => None,
     }
 }
 
@@ -347,22 +331,22 @@ fn gap_of(differential: Mills, bid: Mills, offer: Mills) -> Gap
     }
 }
 
-fn find_spread(differential: Price, bid: Price, offer: Price) -> Spread
+fn find_spread(differential: Option<Mills>, bid: Option<Mills>, offer: Option<Mills>) -> Option<Gap>
     ensures { result ≡ spread_from differential bid offer }
 {
-    let Price::At(d) = differential else {
-        return Spread::Unasked;
+    let Some(d) = differential else {
+        return None;
     };
-    let Price::At(b) = bid else {
-        return Spread::Unasked;
+    let Some(b) = bid else {
+        return None;
     };
-    let Price::At(o) = offer else {
-        return Spread::Unasked;
+    let Some(o) = offer else {
+        return None;
     };
-    Spread::Asked(gap_of(d, b, o))
+    Some(gap_of(d, b, o))
 }
 
-fn price_on(side: Side, a: Price, b: Price) -> Price
+fn price_on(side: Side, a: Option<Mills>, b: Option<Mills>) -> Option<Mills>
     ensures { result ≡ by_side side a b }
 {
     match side {
@@ -516,7 +500,7 @@ fn catastrophic_step(
     side: Side,
     buyer: Party,
     seller: Party,
-    accepted: Moment,
+    accepted: Option<Seconds>,
     tp: Mills,
     band: Band,
 ) -> Far
@@ -544,7 +528,7 @@ fn find_acting(
     side: Side,
     buyer: Party,
     seller: Party,
-    accepted: Moment,
+    accepted: Option<Seconds>,
     tp: Mills,
     band: Band,
 ) -> Acting
@@ -634,13 +618,13 @@ fn find_settled(f: Facts, way: Way, source: Source) -> Settled
 // ---- the whole
 
 // What came after the error: nothing where the trade is not in error.
-fn find_after(f: Facts, way: Way, source: Source, wrong: bool) -> AfterError
+fn find_after(f: Facts, way: Way, source: Source, wrong: bool) -> Option<Settled>
     ensures { result ≡ after_of f way source wrong }
 {
     if wrong {
-        return AfterError::InError(find_settled(f, way, source));
+        return Some(find_settled(f, way, source));
     }
-    AfterError::NotOff
+    None
 }
 
 fn judge(f: Facts, way: Way, source: Source) -> Judged
@@ -674,8 +658,8 @@ fn reach_on(f: Facts, way: Way) -> Reached
     let form = f.form;
     let market = f.market;
     match theory::find_theory(form, side, market) {
-        Theory::Found(source) => Reached::Priced(judge(f, way, source)),
-        Theory::Missing => Reached::Unpriced(look(form, side, market)),
+        Some(source) => Reached::Priced(judge(f, way, source)),
+        None => Reached::Unpriced(look(form, side, market)),
     }
 }
 
@@ -694,12 +678,12 @@ fn reach_by(f: Facts, way: Way) -> Reached
     }
 }
 
-fn reach(f: Facts, found: Open) -> Reached
+fn reach(f: Facts, found: Option<Way>) -> Reached
     ensures { result ≡ reached_if f found }
 {
     match found {
-        Open::By(way) => reach_by(f, way),
-        Open::Closed => Reached::Late,
+        Some(way) => reach_by(f, way),
+        None => Reached::Late,
     }
 }
 

@@ -10,7 +10,7 @@ use lib.Dec.{ltb}
 use borrow.Author.Tests.{lt-ltb, le-ltb, ltb-true, ltb-false}
 use Rattle.wire.specs.Tests.{pick, in_range}
 use Rattle.wire.proofs.Tests.{range_in, both_true, either}
-use Rattle.text.specs.Words.{Price, At, None}
+use Rattle.text.specs.Words.{Price, Some, None}
 use Rattle.text.specs.Text.{digit, spelt, decimal_of, price_text, all_digits, value_from, value_of}
 
 -- one more digit of room changes nothing where there was room
@@ -55,7 +55,7 @@ decimal_length n = spelt_length 9 n
 
 pub price_length : (p : Price) → (1 ≤ length (price_text p)) × (length (price_text p) ≤ 10)
 unfolding price_text
-price_length (At m) = decimal_length m.0
+price_length (Some m) = decimal_length m.0
 price_length None = (omega arith, omega arith)
 
 -- ---- what holds of one digit, and with one digit more, holds of each decimal

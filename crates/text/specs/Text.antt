@@ -4,7 +4,7 @@ use Prim.Native.Char.{code}
 use Prim.Native.String.{String, [] as nothing, ◌∷◌ as ◌then◌}
 use Rattle.wire.specs.Tests.{pick, in_range}
 use Rattle.wire.specs.Laid.{laid}
-use Rattle.text.specs.Words.{Price, At, None}
+use Rattle.text.specs.Words.{Price, Some, None}
 
 -- w written over l from place at on: every byte before the place and every byte after w is kept
 unfoldable pub laid_at : ℕ → List ℕ → List ℕ → List ℕ
@@ -30,7 +30,7 @@ decimal_of n = spelt 9 n
 
 -- a price in mills, or `-` for none
 unfoldable pub price_text : Price → List ℕ
-price_text (At m) = decimal_of m.0
+price_text (Some m) = decimal_of m.0
 price_text None = letters "-"
 
 -- ---- what a reader makes of the digits

@@ -5,7 +5,7 @@
 ghost use Rattle.std.specs.Prelude.{◌≡◌, ◌+◌, ◌≤◌, [], ◌∷◌, length};
 ghost use Rattle.text.specs.Text.{laid_at, decimal_of, price_text};
 
-use facts::Price;
+use facts::Mills;
 
 // How many digits a number has.
 fn decimal_length(mut n: u32) -> usize
@@ -56,12 +56,12 @@ pub fn add_byte(out: &mut [u8], at: usize, b: u8) -> usize
 }
 
 // A price in mills, or `-` for none.
-pub fn add_price(out: &mut [u8], at: usize, p: Price) -> usize
+pub fn add_price(out: &mut [u8], at: usize, p: Option<Mills>) -> usize
     requires { at + 10 ≤ length out.old }
     ensures { (result ≡ at + length (price_text p)) × (out.new ≡ laid_at at (price_text p) out.old) × (result ≤ at + 10) }
 {
     match p {
-        Price::At(m) => add_decimal(out, at, m.0),
-        Price::None => add_byte(out, at, b'-'),
+        Some(m) => add_decimal(out, at, m.0),
+        None => add_byte(out, at, b'-'),
     }
 }

@@ -5,22 +5,22 @@ use mathlib.Core.Bool.{Bool, true, false}
 use borrow.Author.Tests.{leb-true}
 use Rattle.wire.specs.Tests.{pick}
 use Rattle.facts.specs.Numbers.{price_number}
-use Rattle.theory.specs.Words.{Contracts, Price, At, None, Side, Buy, Sell, Form, Market, Source, Found}
+use Rattle.theory.specs.Words.{Contracts, Price, Some, None, Side, Buy, Sell, Form, Market, Source}
 use Rattle.theory.specs.Theory.{quote_for, official_source, source_of, too_wide, trusted_price, theory_of, theory_price, theory_number, or_else, theory_origin, origin_among, up_to}
 
 source_price : (p : Price) (size : Contracts) (official : Price) → theory_price (source_of p size official) ≡ or_else p official
-source_price (At p) size official = refl
-source_price None size (At p) = refl
+source_price (Some p) size official = refl
+source_price None size (Some p) = refl
 source_price None size None = refl
 
 source_origin : (p : Price) (size : Contracts) (official : Price) → theory_origin (source_of p size official) ≡ origin_among p official
-source_origin (At p) size (At q) = refl
-source_origin (At p) size None = refl
-source_origin None size (At p) = refl
+source_origin (Some p) size (Some q) = refl
+source_origin (Some p) size None = refl
+source_origin None size (Some p) = refl
 source_origin None size None = refl
 
 or_else_up_to : (k : ℕ) (p q : Price) → up_to k p ≡ true → up_to k q ≡ true → up_to k (or_else p q) ≡ true
-or_else_up_to k (At m) q hp hq = hp
+or_else_up_to k (Some m) q hp hq = hp
 or_else_up_to k None q hp hq = hq
 
 quote_up_to : (k : ℕ) (side : Side) (m : Market) → up_to k m.bid.price ≡ true → up_to k m.offer.price ≡ true
@@ -52,7 +52,7 @@ module _ (form : Form) (side : Side) (m : Market) where
 
   -- a TP found among prices of at most k is at most k
   pub theory_priced : (k : ℕ) (s : Source) → up_to k m.bid.price ≡ true → up_to k m.offer.price ≡ true → up_to k m.official ≡ true
-      → theory_of form side m ≡ Found s → s.price.0 ≤ k
+      → theory_of form side m ≡ Some s → s.price.0 ≤ k
   theory_priced k s hb ho hf e =
       let p = or_else_up_to k quoted m.official (trusted_up_to k (too_wide form m) (quote_for side m).price (quote_up_to k side m hb ho)) hf in
       leb-true s.price.0 k (ap (up_to k) (ap theory_price (sym e) ∙ theory_price_lem) ∙ p)

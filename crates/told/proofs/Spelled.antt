@@ -18,7 +18,7 @@ use Rattle.forms.specs.Forms.{differential_of, form_of}
 use Rattle.forms.proofs.Heads.{has_88}
 use Rattle.record.specs.Record.{trade_of, market_of, request_of, party_at, settlement_of, facts_of}
 use Rattle.refusals.specs.Tests.{length_ok, lists_ok}
-use Rattle.told.specs.Words.{Mills, At, One, Two}
+use Rattle.told.specs.Words.{Mills, Some, One, Two}
 use Rattle.told.specs.Stands.{InBytes}
 use Rattle.told.specs.Spelled.{Spelled}
 
@@ -28,10 +28,10 @@ unfolding number_at
 one_byte s i = simp unary_clauses
 
 -- a record that has a differential has it at byte 88
-differential_read : (s : List ℕ) (d : Mills) → differential_of (form_of s) ≡ At d → InBytes 4 s 88 d.0
+differential_read : (s : List ℕ) (d : Mills) → differential_of (form_of s) ≡ Some d → InBytes 4 s 88 d.0
 unfolding form_of
 differential_read s d e = by_test (ltb (length s) 92) refl e where
-  by_test : (t : Bool) → ltb (length s) 92 ≡ t → differential_of (pick t One (Two (mills (number_at 4 s 88)))) ≡ At d → InBytes 4 s 88 d.0
+  by_test : (t : Bool) → ltb (length s) 92 ≡ t → differential_of (pick t One (Two (mills (number_at 4 s 88)))) ≡ Some d → InBytes 4 s 88 d.0
   by_test true l h = let z : ◌≡◌ {A = ℕ} 0 1 = cc in absurd (eqb-false 0 1 refl z)
   by_test false l h = (ltb-false (length s) 92 l, cc)
 

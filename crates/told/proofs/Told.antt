@@ -31,7 +31,7 @@ use Rattle.step_lines.specs.Error.{high_place, low_place, error_row}
 use Rattle.step_lines.specs.Act.{act_rows, end_rows}
 use Rattle.step_lines.specs.Counts.{head_row, cover_on, cover_of, size_piece, contracts_row}
 use Rattle.step_lines.specs.Explained.{settled_rows, after_rows, judged_rows, reached_rows, ruled_rows}
-use Rattle.told.specs.Words.{Mills, Contracts, Price, At, None, Side, Buy, Sell, Facts, Band, Way, Obvious, Opening, Catastrophic, Open, By, Closed, Origin, Quoted, Official, Source, Theory, Found, Missing, Heeded, Ignored, Repriced, Undone, Ruling, Clock, Reached, Decided, Figures, Count, Dollars, Who}
+use Rattle.told.specs.Words.{Mills, Contracts, Price, Some, None, Side, Buy, Sell, Facts, Band, Way, Obvious, Opening, Catastrophic, Open, Origin, Quoted, Official, Source, Theory, Heeded, Ignored, Repriced, Undone, Ruling, Clock, Reached, Decided, Figures, Count, Dollars, Who}
 use Rattle.told.specs.Stands.{InBytes, StandsAt, Stands, AllStand, EachStands}
 use Rattle.told.specs.Spelled.{Spelled}
 use Rattle.told.proofs.Spelled.{facts_spelled}
@@ -93,10 +93,10 @@ module _ (s : List ℕ) (f : Facts) (h : Spelled s f) where
   spread_stands : (d b o : Price) → differential_of f.form ≡ d → f.market.bid.price ≡ b → f.market.offer.price ≡ o
       → EachStands s (spread_rows (spread_from d b o))
   unfolding gap_of
-  spread_stands (At d) (At b) (At o) x y z =
+  spread_stands (Some d) (Some b) (Some o) x y z =
       (gap_stands s (gap_of d b o) (price_as 24 z h.offer) (price_as 20 y h.bid) (h.differential d x), tt)
-  spread_stands (At d) (At b) None x y z = tt
-  spread_stands (At d) None o x y z = tt
+  spread_stands (Some d) (Some b) None x y z = tt
+  spread_stands (Some d) None o x y z = tt
   spread_stands None b o x y z = tt
 
   seen : (side : Side) → Seen s side (looked_of f.form side f.market)
@@ -108,7 +108,7 @@ module _ (s : List ℕ) (f : Facts) (h : Spelled s f) where
         spread = spread_stands (differential_of f.form) f.market.bid.price f.market.offer.price refl refl refl;
       }
 
-  module _ (side : Side) (src : Source) (t : theory_of f.form side f.market ≡ Found src) where
+  module _ (side : Side) (src : Source) (t : theory_of f.form side f.market ≡ Some src) where
     source_stands : (o : Origin) → src.origin ≡ o → AllStand s (source_row side (looked_of f.form side f.market) src o)
     source_stands (Quoted n) e =
         quoted_stands s side src
@@ -162,7 +162,7 @@ module _ (s : List ℕ) (f : Facts) (h : Spelled s f) where
   after_rows_lem way src false = tt
 
   -- ---- from the quotes on
-  judged_rows_lem : (way : Way) (src : Source) → theory_of f.form f.request.side f.market ≡ Found src
+  judged_rows_lem : (way : Way) (src : Source) → theory_of f.form f.request.side f.market ≡ Some src
       → EachStands s (judged_rows f.request.side (judged_of f way src))
   unfolding judged_rows judged_of
   judged_rows_lem way src t =
@@ -178,8 +178,8 @@ module _ (s : List ℕ) (f : Facts) (h : Spelled s f) where
 
   from_stands : (way : Way) (t : Theory) → theory_of f.form f.request.side f.market ≡ t → StandsFrom s f (reached_from f way t)
   unfolding clock_of judged_of
-  from_stands way (Found src) e = (judged_rows_lem way src e, cover_stands f.request.side src e way src.origin refl)
-  from_stands way Missing e = (unpriced_rows_lem s f.request.side (looked_of f.form f.request.side f.market) (seen f.request.side), tt)
+  from_stands way (Some src) e = (judged_rows_lem way src e, cover_stands f.request.side src e way src.origin refl)
+  from_stands way None e = (unpriced_rows_lem s f.request.side (looked_of f.form f.request.side f.market) (seen f.request.side), tt)
 
   on_stands : (way : Way) → StandsFrom s f (reached_on f way)
   unfolding reached_on
@@ -187,13 +187,13 @@ module _ (s : List ℕ) (f : Facts) (h : Spelled s f) where
 
   if_stands : (o : Open) → StandsFrom s f (reached_if f o)
   unfolding reached_by
-  if_stands (By Obvious) = on_stands Obvious
-  if_stands (By Opening) = on_stands Opening
-  if_stands (By Catastrophic) =
+  if_stands (Some Obvious) = on_stands Obvious
+  if_stands (Some Opening) = on_stands Opening
+  if_stands (Some Catastrophic) =
       picked (λ (r : Reached). StandsFrom s f r) f.request.decided Decided (reached_on f Catastrophic)
       ((panel_stands s (clock_in f) clocked, tt), tt)
       (on_stands Catastrophic)
-  if_stands Closed = (tt, tt)
+  if_stands None = (tt, tt)
 
   -- ---- the whole: of any facts that the bytes spell
   pub spelled_stand : (n : Figures) → EachStands s (ruled_rows (steps_of f) n)

@@ -3,7 +3,7 @@ use Rattle.std.specs.Prelude.{ℕ, ◌≡◌, List}
 use Rattle.facts.specs.Numbers.{price_number, moment_number}
 use Rattle.codes.specs.Codes.{kind_number, day_number, flag_number, agreement_number}
 use Rattle.forms.specs.Forms.{differential_of}
-use Rattle.told.specs.Words.{Mills, At, Facts}
+use Rattle.told.specs.Words.{Mills, Some, Facts}
 use Rattle.told.specs.Stands.{InBytes}
 
 pub record Spelled (s : List ℕ) (f : Facts) : Type 0 where
@@ -28,4 +28,4 @@ pub record Spelled (s : List ℕ) (f : Facts) : Type 0 where
   pub filed : InBytes 4 s 72 f.request.filed.0
   pub made : InBytes 4 s 76 f.settlement.made.0
   pub accepted : InBytes 4 s 80 (moment_number f.settlement.accepted)
-  pub differential : (d : Mills) → differential_of f.form ≡ At d → InBytes 4 s 88 d.0
+  pub differential : (d : Mills) → differential_of f.form ≡ Some d → InBytes 4 s 88 d.0

@@ -4,7 +4,7 @@
 use Rattle.std.specs.Prelude.{Bool, not, ◌&&◌, ◌||◌}
 use Rattle.wire.specs.Tests.{pick}
 use Rattle.facts.specs.Numbers.{seconds}
-use Rattle.way.specs.Words.{Seconds, Request, Kind, Customer, MarketMaker, Other, Day, Obvious, Opening, Catastrophic, Open, By, Closed}
+use Rattle.way.specs.Words.{Seconds, Request, Kind, Customer, MarketMaker, Other, Day, Obvious, Opening, Catastrophic, Open, Some, None}
 use Rattle.parties.specs.Parties.{is_customer}
 use Rattle.way.specs.Times.{is_trade_date, is_next_day, no_later, within}
 
@@ -45,7 +45,7 @@ catastrophic_open day expiry filed =
 
 -- The first one open, in this order (RULE R4.0).
 abbrev pub first_open : Bool → Bool → Bool → Open
-first_open obvious opening catastrophic = pick obvious (By Obvious) (pick opening (By Opening) (pick catastrophic (By Catastrophic) Closed))
+first_open obvious opening catastrophic = pick obvious (Some Obvious) (pick opening (Some Opening) (pick catastrophic (Some Catastrophic) None))
 
 -- The way of a request. A Market Maker past 300 s is not late: the catastrophic way may be open to it (RULE R4.6).
 unfoldable pub way_of : Seconds → Request → Kind → Open

@@ -1,4 +1,6 @@
 -- The declared types and their cases, passed on under their own names: the facts' that stand here, then our own.
+use Rattle.std.specs.Prelude.{Option}
+pub use Rattle.std.specs.Prelude.{Some, None}
 pub use Rattle.facts.specs.declared.Seconds.{Seconds}
 pub use Rattle.facts.specs.declared.Side.{Side}
 pub use Rattle.facts.specs.declared.Side.TheVariants.{Buy, Sell}
@@ -9,5 +11,7 @@ pub use Rattle.facts.specs.declared.Day.TheVariants.{TradeDate, NextDay, Later}
 pub use Rattle.facts.specs.declared.Request.{Request}
 pub use Rattle.way.specs.declared.Way.{Way}
 pub use Rattle.way.specs.declared.Way.TheVariants.{Obvious, Opening, Catastrophic}
-pub use Rattle.way.specs.declared.Open.{Open}
-pub use Rattle.way.specs.declared.Open.TheVariants.{By, Closed}
+
+-- The way that is open, or none.
+abbrev pub Open : Type 0
+Open = Option Way

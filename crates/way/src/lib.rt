@@ -17,13 +17,6 @@ pub enum Way {
     Catastrophic,
 }
 
-// The way that is open, or that none is.
-#[derive(Clone, Copy)]
-pub enum Open {
-    By(Way),
-    Closed,
-}
-
 // ---- times
 
 pub fn is_trade_date(d: Day) -> bool
@@ -99,19 +92,19 @@ fn catastrophic_open(day: Day, expiry: bool, filed: Seconds) -> bool
 }
 
 // The way of a request, `kind` being that of the party in error: the first that is open, and no other is tried.
-pub fn find_way(executed: Seconds, request: Request, kind: Kind) -> Open
+pub fn find_way(executed: Seconds, request: Request, kind: Kind) -> Option<Way>
     ensures { result ≡ way_of executed request kind }
 {
     let day = request.day;
     let filed = request.filed;
     if obvious_open(day, executed, filed, kind) {
-        return Open::By(Way::Obvious);
+        return Some(Way::Obvious);
     }
     if opening_open(day, request.opening, executed, filed, kind) {
-        return Open::By(Way::Opening);
+        return Some(Way::Opening);
     }
     if catastrophic_open(day, request.expiry, filed) {
-        return Open::By(Way::Catastrophic);
+        return Some(Way::Catastrophic);
     }
-    Open::Closed
+    None
 }

@@ -5,7 +5,7 @@
 ghost use Rattle.std.specs.Prelude.{◌≡◌};
 ghost use Rattle.width.specs.Width.{apart, wide};
 
-use facts::{Market, Mills, Price};
+use facts::{Market, Mills};
 
 // Whether an offer is at least a bid plus twice the differential. A sum and no difference: a crossed market is never so far apart.
 fn apart(differential: Mills, bid: Mills, offer: Mills) -> bool
@@ -15,20 +15,20 @@ fn apart(differential: Mills, bid: Mills, offer: Mills) -> bool
 }
 
 // Whether both quotes are present and so far apart; without a differential nobody asks.
-pub fn is_wide(differential: Price, market: Market) -> bool
+pub fn is_wide(differential: Option<Mills>, market: Market) -> bool
     ensures { result ≡ wide differential market.bid.price market.offer.price }
 {
     let bid = market.bid;
     let bid_price = bid.price;
     let offer = market.offer;
     let offer_price = offer.price;
-    let Price::At(d) = differential else {
+    let Some(d) = differential else {
         return false;
     };
-    let Price::At(b) = bid_price else {
+    let Some(b) = bid_price else {
         return false;
     };
-    let Price::At(o) = offer_price else {
+    let Some(o) = offer_price else {
         return false;
     };
     apart(d, b, o)

@@ -4,7 +4,7 @@ use Rattle.wire.specs.Tests.{pick}
 use Rattle.text.specs.Text.{letters, decimal_of}
 use Rattle.spelling.specs.Times.{time_text}
 use Rattle.spelling.specs.Dollars.{dollars_text}
-use Rattle.words.specs.Words.{Moment, After, Never, Kind, Customer, MarketMaker, Other, Day, TradeDate, NextDay, Later, Agreement, NotMade, OnPrice, ToNullify, Place, Value, Nothing, Number, Count, Dollars, Time, Lapse, Letter, Who, On, Flag, Terms}
+use Rattle.words.specs.Words.{Moment, Some, None, Kind, Customer, MarketMaker, Other, Day, TradeDate, NextDay, Later, Agreement, NotMade, OnPrice, ToNullify, Place, Value, Nothing, Number, Count, Dollars, Time, Lapse, Letter, Who, On, Flag, Terms}
 use Rattle.words.specs.Grouped.{grouped_text}
 
 -- ---- the words of the coded bytes
@@ -33,8 +33,8 @@ unfoldable pub seconds_text : ℕ → List ℕ
 seconds_text n = grouped_text n ++ letters " s"
 
 abbrev pub lapse_text : Moment → List ℕ
-lapse_text (After t) = seconds_text t.0
-lapse_text Never = letters "none"
+lapse_text (Some t) = seconds_text t.0
+lapse_text None = letters "none"
 
 -- ---- a value: a number as it is, a count with its commas, dollars, a time of day, seconds passed, a letter, the words of a code
 unfoldable pub value_text : Value → List ℕ

@@ -1,10 +1,9 @@
 -- The declared types and their cases, passed on under their own names: the facts' that stand here, then our own.
+pub use Rattle.std.specs.Prelude.{Some, None}
 pub use Rattle.facts.specs.declared.Mills.{Mills}
 pub use Rattle.facts.specs.declared.Seconds.{Seconds}
-pub use Rattle.facts.specs.declared.Price.{Price}
-pub use Rattle.facts.specs.declared.Price.TheVariants.{At, None}
-pub use Rattle.facts.specs.declared.Moment.{Moment}
-pub use Rattle.facts.specs.declared.Moment.TheVariants.{After, Never}
+pub use Rattle.facts.specs.Words.{Price}
+pub use Rattle.facts.specs.Words.{Moment}
 pub use Rattle.facts.specs.declared.Kind.{Kind}
 pub use Rattle.facts.specs.declared.Kind.TheVariants.{Customer, MarketMaker, Other}
 pub use Rattle.facts.specs.declared.Day.{Day}

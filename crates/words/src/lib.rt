@@ -11,7 +11,7 @@ ghost use Rattle.words.specs.Values.{kind_words, day_words, flag_words, agreemen
 ghost use Rattle.words.specs.Pieces.{piece_text, row_text, bytes_at, say, tell, found};
 ghost use Rattle.words.specs.Rows.{index_text};
 
-use facts::{Agreement, Day, Kind, Moment, Price, Seconds};
+use facts::{Agreement, Day, Kind, Mills, Seconds};
 
 // So many bytes of the record from one on; none where a value has no place.
 #[derive(Clone, Copy)]
@@ -25,9 +25,9 @@ pub enum Value {
     Nothing,
     Number(u32),
     Count(u32),
-    Dollars(Price),
+    Dollars(Option<Mills>),
     Time(Seconds),
-    Lapse(Moment),
+    Lapse(Option<Seconds>),
     Letter(u8),
     Who(Kind),
     On(Day),
@@ -492,13 +492,13 @@ fn add_seconds(out: &mut [u8], at: usize, n: u32) -> usize
     text::add_word(out, next, b" s")
 }
 
-fn add_lapse(out: &mut [u8], at: usize, lapse: Moment) -> usize
+fn add_lapse(out: &mut [u8], at: usize, lapse: Option<Seconds>) -> usize
     requires { at + 16 ≤ length out.old }
     ensures { (result ≡ at + length (lapse_text lapse)) × (out.new ≡ laid_at at (lapse_text lapse) out.old) × (result ≤ at + 16) }
 {
     match lapse {
-        Moment::After(t) => add_seconds(out, at, t.0),
-        Moment::Never => text::add_word(out, at, b"none"),
+        Some(t) => add_seconds(out, at, t.0),
+        None => text::add_word(out, at, b"none"),
     }
 }
 

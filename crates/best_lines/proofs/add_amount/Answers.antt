@@ -1,12 +1,12 @@
 use mathlib.Core.Path.{◌≡◌}
 use native.Mathlib.Omega.{arith}
-use Rattle.best_lines.specs.Words.{At, None}
+use Rattle.best_lines.specs.Words.{Some, None}
 use Rattle.best_lines.specs.BestLines.{amount_text}
 use Rattle.best_lines.proofs.add_amount.Goals as goal
 
-pub returns-in-At : goal.returns-in-At
+pub returns-in-Some : goal.returns-in-Some
 unfolding amount_text
-returns-in-At c = let e : c.args.price ≡ At _ = c.in-At.is in
+returns-in-Some c = let e : c.args.price ≡ Some _ = c.in-At.is in
     rw e c.add_size.ensures
 
 pub returns-in-None : goal.returns-in-None

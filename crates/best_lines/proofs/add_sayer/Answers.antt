@@ -1,23 +1,23 @@
 use mathlib.Core.Path.{◌≡◌, sym, ◌∙◌}
 use native.Mathlib.Omega.{arith}
-use Rattle.best_lines.specs.Words.{Silent, Sent}
+use Rattle.best_lines.specs.Words.{None, Some}
 use Rattle.best_lines.specs.BestLines.{sayer_line}
 use Rattle.best_lines.proofs.NoLine.{no_line}
 use Rattle.best_lines.proofs.add_sayer.Goals as goal
 
 pub returns-in_default : goal.returns-in_default
 unfolding sayer_line
-returns-in_default c = let e : c.args.last ≡ Silent = cc in
+returns-in_default c = let e : c.args.last ≡ None = cc in
     no_line _ _ _ _ (rw e) (omega arith)
 
 pub returns-then-same : goal.returns-then-same
 unfolding sayer_line
-returns-then-same c = let e : c.args.last ≡ Sent _ = c.in-Sent.is in
+returns-then-same c = let e : c.args.last ≡ Some _ = c.in-Sent.is in
     let t = sym c.same.ensures ∙ c.if-same.true in
     rw (e, ← c.half_of-side.ensures, t) c.add_quote.ensures
 
 pub returns : goal.returns
 unfolding sayer_line
-returns c = let e : c.args.last ≡ Sent _ = c.in-Sent.is in
+returns c = let e : c.args.last ≡ Some _ = c.in-Sent.is in
     let t = sym c.same.ensures ∙ c.if-same.false in
     no_line _ _ _ _ (rw (e, ← c.half_of-side.ensures, t)) (omega arith)

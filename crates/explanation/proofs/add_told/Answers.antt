@@ -4,7 +4,7 @@ use Rattle.cases.specs.Cases.{refusal_of}
 use Rattle.cases.proofs.Laws.{passed_whole}
 use Rattle.steps.specs.Steps.{steps_of}
 use Rattle.step_lines.specs.Explained.{ruled_rows}
-use Rattle.blame.specs.declared.Blame.{Blame}
+use Rattle.blame.specs.Words.{Blame}
 use Rattle.blame_lines.specs.Lines.{blame_rows}
 use Rattle.explanation.proofs.Told.{as_rows, told_ruled, told_refused}
 use Rattle.explanation.proofs.add_told.Goals as goal

@@ -4,7 +4,7 @@ use mathlib.Core.List.{List}
 use Rattle.record.specs.Record.{trade_of, request_of, party_at, facts_of}
 use Rattle.parties.specs.Parties.{by_side}
 use Rattle.way.specs.Way.{way_of}
-use Rattle.ruling.specs.Words.{Kind, Trade, Request, Open, Missing, Ruling}
+use Rattle.ruling.specs.Words.{Kind, Trade, Request, Open, None, Ruling}
 use Rattle.ruling.specs.Ruling.{no_relief, ruled_if, ruling_of}
 use Rattle.ruling.proofs.Numbers.{ruled}
 use Rattle.ruling.proofs.rule.Goals as goal
@@ -37,4 +37,4 @@ returns-in-Closed c = ruled _ _
     (by_way _
     c.trade_of-trade.ensures c.request_of-request.ensures c.buyer_kind-buyer.ensures c.seller_kind-seller.ensures
     c.kind_in_error-kind.ensures.0 c.find_way.ensures c.in-Closed.is
-    (c.no_relief.ensures ∙ ap (λ (t : Trade). no_relief t 2 Missing) c.trade_of-trade.ensures))
+    (c.no_relief.ensures ∙ ap (λ (t : Trade). no_relief t 2 None) c.trade_of-trade.ensures))

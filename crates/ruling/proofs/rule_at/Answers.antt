@@ -8,7 +8,7 @@ use Rattle.parties.specs.Parties.{any_customer}
 use Rattle.record.specs.Record.{trade_of, request_of, party_at, settlement_of, facts_of}
 use Rattle.agreement.specs.Agreed.{heeded_of}
 use Rattle.act.specs.Minimum.{minimum_of}
-use Rattle.ruling.specs.Words.{Mills, Kind, Band, Trade, Request, Settlement, Way, Source, Found, Heeded, Ruling}
+use Rattle.ruling.specs.Words.{Mills, Kind, Band, Trade, Request, Settlement, Way, Source, Some, Heeded, Ruling}
 use Rattle.ruling.specs.Ruling.{no_relief, settled, ruled_at}
 use Rattle.ruling.proofs.rule_at.Goals as goal
 
@@ -34,9 +34,9 @@ module _ (s : List ℕ) (way : Way) (source : Source) {trade : Trade} {request :
       let f : heeded ≡ heeded_of (settlement_of s) way (any_customer (party_at s 48 64).kind (party_at s 56 65).kind) = cc in
       simp (in_error_lem true h) (ruled ∙ ap (settled (facts_of s) way source) f)
 
-  not_off : {r : Ruling} → wrong ≡ false → r ≡ no_relief trade 1 (Found source) → r ≡ ruled_at (facts_of s) way source
+  not_off : {r : Ruling} → wrong ≡ false → r ≡ no_relief trade 1 (Some source) → r ≡ ruled_at (facts_of s) way source
   unfolding facts_of ruled_at
-  not_off h e = simp (in_error_lem false h) (e ∙ ap (λ (t : Trade). no_relief t 1 (Found source)) traded)
+  not_off h e = simp (in_error_lem false h) (e ∙ ap (λ (t : Trade). no_relief t 1 (Some source)) traded)
 
 pub returns-then-in_error : goal.returns-then-in_error
 returns-then-in_error c = off _ _ _

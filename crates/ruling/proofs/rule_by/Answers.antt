@@ -1,7 +1,7 @@
 use mathlib.Core.Path.{◌≡◌, refl, sym, ap, ◌∙◌}
 use mathlib.Core.Bool.{true, false}
 use Rattle.record.specs.Record.{facts_of}
-use Rattle.ruling.specs.Words.{Trade, Request, Facts, Way, Obvious, Opening, Catastrophic, Missing, Ruling}
+use Rattle.ruling.specs.Words.{Trade, Request, Facts, Way, Obvious, Opening, Catastrophic, None, Ruling}
 use Rattle.ruling.specs.Ruling.{no_relief, ruled_on, ruled_by}
 use Rattle.ruling.proofs.rule_by.Goals as goal
 use Rattle.ruling.proofs.rule_by.Goals.{in-Catastrophic+else-request, in_default}
@@ -14,7 +14,7 @@ module _ (f : Facts) {r : Ruling} where
   other Catastrophic n e = absurd (n refl)
 
 module _ (f : Facts) {way : Way} {r : Ruling} where
-  decided : way ≡ Catastrophic → f.request.decided ≡ true → r ≡ no_relief f.trade 3 Missing → r ≡ ruled_by f way
+  decided : way ≡ Catastrophic → f.request.decided ≡ true → r ≡ no_relief f.trade 3 None → r ≡ ruled_by f way
   unfolding ruled_by
   decided w d e = simp (w, d) e
 
@@ -25,7 +25,7 @@ module _ (f : Facts) {way : Way} {r : Ruling} where
 pub returns-then-request : goal.returns-then-request
 unfolding facts_of
 returns-then-request c = decided _ c.in-Catastrophic.is (ap (λ (r : Request). r.decided) (sym c.request_of-request.ensures) ∙ c.if-request.true)
-    (c.no_relief.ensures ∙ ap (λ (t : Trade). no_relief t 3 Missing) c.trade_of.ensures)
+    (c.no_relief.ensures ∙ ap (λ (t : Trade). no_relief t 3 None) c.trade_of.ensures)
 
 pub returns : goal.returns
 unfolding facts_of

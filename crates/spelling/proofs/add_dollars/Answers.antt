@@ -1,12 +1,12 @@
 use mathlib.Core.Path.{◌≡◌}
 use native.Mathlib.Omega.{arith}
-use Rattle.spelling.specs.Words.{At, None}
+use Rattle.spelling.specs.Words.{Some, None}
 use Rattle.spelling.specs.Dollars.{dollars_text}
 use Rattle.spelling.proofs.add_dollars.Goals as goal
 
-pub returns-in-At : goal.returns-in-At
+pub returns-in-Some : goal.returns-in-Some
 unfolding dollars_text
-returns-in-At c = let e : c.args.p ≡ At _ = c.in-At.is in
+returns-in-Some c = let e : c.args.p ≡ Some _ = c.in-At.is in
     rw e c.add_mills.ensures
 
 pub returns-in-None : goal.returns-in-None

@@ -1,12 +1,12 @@
 use mathlib.Core.Path.{◌≡◌}
-use Rattle.text.specs.Words.{At, None}
+use Rattle.text.specs.Words.{Some, None}
 use native.Mathlib.Omega.{arith}
 use Rattle.text.specs.Text.{price_text}
 use Rattle.text.proofs.add_price.Goals as goal
 
-pub returns-in-At : goal.returns-in-At
+pub returns-in-Some : goal.returns-in-Some
 unfolding price_text
-returns-in-At c = let e : c.args.p ≡ At _ = c.in-At.is in
+returns-in-Some c = let e : c.args.p ≡ Some _ = c.in-At.is in
     rw e c.add_decimal.ensures
 
 pub returns-in-None : goal.returns-in-None
