@@ -13,7 +13,7 @@ use Rattle.quotes.specs.Quotes.{posted_in, quotes_refusal_of}
 use Rattle.quotes.proofs.Accepted.{all_rising, few_quotes}
 use Rattle.earlier.specs.Earlier.{earlier, count_of, quotes_before_of}
 use Rattle.earlier.proofs.Number.{count_most, before_right}
-use Rattle.best.specs.Words.{Posted, Some, Looked}
+use Rattle.best.specs.Words.{Posted, Found, Looked}
 use Rattle.best.specs.Lasts.{lasts}
 use Rattle.best.specs.Examined.{all_known, examined_in}
 use Rattle.best.specs.Found.{found_in, refused, found_of}
@@ -47,7 +47,7 @@ module _ (s : List ℕ) (t : ℕ) where
   pub found_number : (found_of s t).refusal ≡ quotes_refusal_of s t
   unfolding found_of found_in
   found_number =
-      either (λ (f : Some). f.refusal ≡ quotes_refusal_of s t) (eqb (quotes_refusal_of s t) 0) (found_in (earlier t (posted_in s))) (refused (quotes_refusal_of s t))
+      either (λ (f : Found). f.refusal ≡ quotes_refusal_of s t) (eqb (quotes_refusal_of s t) 0) (found_in (earlier t (posted_in s))) (refused (quotes_refusal_of s t))
       (λ e. sym (eqb-true (quotes_refusal_of s t) 0 e)) (λ e. refl)
 
   -- ---- with their own number

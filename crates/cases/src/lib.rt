@@ -10,7 +10,10 @@ ghost use Rattle.forms.specs.Heads.{IsCase};
 ghost use Rattle.record.specs.Record.{facts_of};
 ghost use Rattle.cases.specs.Cases.{refusal_of, refused, reading_of, writing_of, Held};
 
-use facts::{Agreement, Contracts, Day, Facts, Form, Kind, Market, Mills, Option<Mills>, Option<Seconds>, Party, Quote, Request, Seconds, Settlement, Side, Trade};
+use facts::{
+    Agreement, Contracts, Day, Facts, Form, Kind, Market, Mills, Party, Quote, Request, Seconds,
+    Settlement, Side, Trade,
+};
 
 // The facts where refusal is 0; otherwise the number of the first test that failed, beside fixed facts that nobody uses.
 #[derive(Clone, Copy)]

@@ -6,7 +6,7 @@ ghost use Rattle.std.specs.Prelude.{◌≡◌, ◌&&◌, ◌+◌, ◌≤◌, len
 ghost use Rattle.wire.specs.Numbers.{elements};
 ghost use Rattle.refusals.specs.Tests.{code_byte_ok, code_ok, codes_ok, moment_ok, filed_ok, times_ok, limits_ok, agreement_ok, later_fault_of, fault_of};
 
-use facts::{Agreement, Day, Facts, Option<Mills>, Option<Seconds>, Party, Request, Seconds, Settlement, Side, Trade};
+use facts::{Agreement, Day, Facts, Mills, Party, Request, Seconds, Settlement, Side, Trade};
 
 // ---- 4: member codes
 

@@ -12,7 +12,7 @@ use Rattle.record.specs.Record.{facts_of}
 use Rattle.earlier.specs.Earlier.{quotes_before_of}
 use Rattle.best.specs.Looked.{looked_of}
 use Rattle.best.proofs.Own.{own_found, own_most}
-use Rattle.filling.specs.Words.{Quote, Trade, Some, Looked, Tried}
+use Rattle.filling.specs.Words.{Quote, Trade, Found, Looked, Tried}
 use Rattle.filling.specs.Filling.{filled, found_for, fill_refusal_of, filling_of, looked_for, fill_read_of, tried_of}
 
 filled_length : (s : List ℕ) (b o : Quote) → length (filled s b o) ≡ length s
@@ -69,7 +69,7 @@ module _ (q s : List ℕ) where
 
     number : fill_refusal_of q s ≡ l.found.refusal
     unfolding fill_refusal_of
-    number = simp (eq-eqb (refusal_of s) 0 (sym tested ∙ good)) (ap (λ (f : Some). f.refusal) (sym own))
+    number = simp (eq-eqb (refusal_of s) 0 (sym tested ∙ good)) (ap (λ (f : Found). f.refusal) (sym own))
 
     -- the quotes do
     pub quotes_fail : (l.found.refusal ≡ 0 → ⊥) → Ends l.found.refusal s
@@ -78,7 +78,7 @@ module _ (q s : List ℕ) where
     -- neither does
     pub fills : l.found.refusal ≡ 0 → Ends 0 (filled s l.found.bid l.found.offer)
     unfolding filling_of
-    fills h = ends (0, filled s l.found.bid l.found.offer) (simp (number ∙ h) (ap (λ (f : Some). (0, filled s f.bid f.offer)) (sym own)))
+    fills h = ends (0, filled s l.found.bid l.found.offer) (simp (number ∙ h) (ap (λ (f : Found). (0, filled s f.bid f.offer)) (sym own)))
 
     -- what would be answered, whether they do or not
     pub tried : ◌≡◌ {A = Tried} (record { refusal = l.found.refusal; examined = l.examined }) (tried_of q s)

@@ -9,7 +9,7 @@ use Rattle.cases.specs.Cases.{refusal_of}
 use Rattle.earlier.specs.Earlier.{quotes_before_of}
 use Rattle.best.specs.Found.{found_of}
 use Rattle.best.specs.Looked.{looked_of}
-use Rattle.filling.specs.Words.{Quote, Facts, Some, Looked, Tried}
+use Rattle.filling.specs.Words.{Quote, Facts, Found, Looked, Tried}
 
 -- ---- the facts: this bid and this offer, everything else as it was
 abbrev pub quoted : Facts → Quote → Quote → Facts
@@ -31,7 +31,7 @@ filled s bid offer =
     (bytes 4 offer.size.0)
 
 -- ---- what is found at the case's own execution time
-abbrev pub found_for : List ℕ → List ℕ → Some
+abbrev pub found_for : List ℕ → List ℕ → Found
 found_for quotes s = found_of quotes (facts_of s).trade.executed.0
 
 -- ---- the case is tested as reading does, then the quotes

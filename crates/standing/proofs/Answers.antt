@@ -17,7 +17,7 @@ use Rattle.best.specs.Examined.{examined_in}
 use Rattle.best.specs.Found.{best_in, found_in, found_of}
 use Rattle.best.specs.Looked.{looked_in, looked_of}
 use Rattle.best.proofs.Own.{found_number, own_looked, own_found, own_most}
-use Rattle.standing.specs.Words.{Bid, Offer, Some, Looked}
+use Rattle.standing.specs.Words.{Bid, Offer, Found, Looked}
 use Rattle.standing.specs.Standing.{born_text, before_line, read_line, standing_text, lookup_line, found_text}
 
 module _ (s : List ℕ) (t : ℕ) where
@@ -36,7 +36,7 @@ module _ (s : List ℕ) (t : ℕ) where
 
     module _ (h : l.found.refusal ≡ 0) where
       good : quotes_refusal_of s t ≡ 0
-      good = sym (found_number s t) ∙ ap (λ (f : Some). f.refusal) (sym same_found) ∙ h
+      good = sym (found_number s t) ∙ ap (λ (f : Found). f.refusal) (sym same_found) ∙ h
 
       text_found : found_text s t ≡ standing_text t (earlier t (posted_in s))
       unfolding found_text

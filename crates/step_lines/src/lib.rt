@@ -19,7 +19,10 @@ ghost use Rattle.step_lines.specs.Explained.{settled_rows, after_rows, judged_ro
 
 use facts::{Agreement, Contracts, Day, Mills, Seconds, Side};
 use figures::Figures;
-use steps::{Acting, Clock, End, Even, Far, Gap, Judged, Limit, Looked, Near, Off, Option<Gap>, Option<Settled>, Reached, Settled, Steps, Tried};
+use steps::{
+    Acting, Clock, End, Even, Far, Gap, Judged, Limit, Looked, Near, Off, Reached, Settled, Steps,
+    Tried,
+};
 use theory::{Origin, Source};
 use way::Way;
 use words::{Piece, Place, Value};

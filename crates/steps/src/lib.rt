@@ -14,7 +14,10 @@ ghost use Rattle.steps.specs.Steps.{end_of, settled_of, after_of, judged_of, rea
 
 use agreement::Heeded;
 use bands::Band;
-use facts::{Agreement, Day, Facts, Form, Kind, Market, Mills, Option<Mills>, Option<Seconds>, Party, Request, Seconds, Settlement, Side, Trade};
+use facts::{
+    Agreement, Day, Facts, Form, Kind, Market, Mills, Party, Request, Seconds, Settlement, Side,
+    Trade,
+};
 use theory::Source;
 use way::Way;
 

@@ -6,7 +6,7 @@ use Rattle.best_lines.proofs.add_amount.Goals as goal
 
 pub returns-in-Some : goal.returns-in-Some
 unfolding amount_text
-returns-in-Some c = let e : c.args.price ≡ Some _ = c.in-At.is in
+returns-in-Some c = let e : c.args.price ≡ Some _ = c.in-Some.is in
     rw e c.add_size.ensures
 
 pub returns-in-None : goal.returns-in-None

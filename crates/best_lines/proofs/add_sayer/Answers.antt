@@ -12,12 +12,12 @@ returns-in_default c = let e : c.args.last ≡ None = cc in
 
 pub returns-then-same : goal.returns-then-same
 unfolding sayer_line
-returns-then-same c = let e : c.args.last ≡ Some _ = c.in-Sent.is in
+returns-then-same c = let e : c.args.last ≡ Some _ = c.in-Some.is in
     let t = sym c.same.ensures ∙ c.if-same.true in
     rw (e, ← c.half_of-side.ensures, t) c.add_quote.ensures
 
 pub returns : goal.returns
 unfolding sayer_line
-returns c = let e : c.args.last ≡ Some _ = c.in-Sent.is in
+returns c = let e : c.args.last ≡ Some _ = c.in-Some.is in
     let t = sym c.same.ensures ∙ c.if-same.false in
     no_line _ _ _ _ (rw (e, ← c.half_of-side.ensures, t)) (omega arith)

@@ -10,18 +10,18 @@ returns-in_default c = let p : c.args.price ≡ None = cc in simp p
 
 pub returns-in_default-p : goal.returns-in_default-p
 unfolding size_if
-returns-in_default-p c = let a = c.args in let p : a.price ≡ Some _ = c.in-At.is in
+returns-in_default-p c = let a = c.args in let p : a.price ≡ Some _ = c.in-Some.is in
     let b : a.q.price ≡ None = cc in
     simp (p, b)
 
 pub returns-then-a-b : goal.returns-then-a-b
 unfolding size_if
-returns-then-a-b c = let a = c.args in let p : a.price ≡ Some _ = c.in-At.is in
+returns-then-a-b c = let a = c.args in let p : a.price ≡ Some _ = c.in-Some.is in
     let b : a.q.price ≡ Some _ = c.in-Some-p.is in
     simp (p, b, eq-eqb _ _ c.if-a-b.true)
 
 pub returns-else-a-b : goal.returns-else-a-b
 unfolding size_if
-returns-else-a-b c = let a = c.args in let p : a.price ≡ Some _ = c.in-At.is in
+returns-else-a-b c = let a = c.args in let p : a.price ≡ Some _ = c.in-Some.is in
     let b : a.q.price ≡ Some _ = c.in-Some-p.is in
     simp (p, b, ne_eqb _ _ c.if-a-b.false)

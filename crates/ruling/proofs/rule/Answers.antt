@@ -25,16 +25,16 @@ by_way s {w = w} trade request buyer seller kind found case ruling =
     let e : w ≡ way_of (trade_of s).executed (request_of s) (by_side (request_of s).side (party_at s 48 64).kind (party_at s 56 65).kind) = cc in
     ruling ∙ ap (ruled_if (facts_of s)) e
 
-pub returns-in-By : goal.returns-in-By
-returns-in-By c = ruled _ _
+pub returns-in-Some : goal.returns-in-Some
+returns-in-Some c = ruled _ _
     (by_way _
     c.trade_of-trade.ensures c.request_of-request.ensures c.buyer_kind-buyer.ensures c.seller_kind-seller.ensures
-    c.kind_in_error-kind.ensures.0 c.find_way.ensures c.in-By.is c.rule_by.ensures)
+    c.kind_in_error-kind.ensures.0 c.find_way.ensures c.in-Some.is c.rule_by.ensures)
 
-pub returns-in-Closed : goal.returns-in-Closed
+pub returns-in-None : goal.returns-in-None
 unfolding facts_of
-returns-in-Closed c = ruled _ _
+returns-in-None c = ruled _ _
     (by_way _
     c.trade_of-trade.ensures c.request_of-request.ensures c.buyer_kind-buyer.ensures c.seller_kind-seller.ensures
-    c.kind_in_error-kind.ensures.0 c.find_way.ensures c.in-Closed.is
+    c.kind_in_error-kind.ensures.0 c.find_way.ensures c.in-None.is
     (c.no_relief.ensures ∙ ap (λ (t : Trade). no_relief t 2 None) c.trade_of-trade.ensures))

@@ -28,4 +28,4 @@ returns-in_default c = from _ _ c.request_of-request.ensures c.form_of.ensures c
     (c.wait.ensures ∙ ap waiting c.trade_of.ensures)
 
 pub returns : goal.returns
-returns c = from _ _ c.request_of-request.ensures c.form_of.ensures c.market_of.ensures c.find_theory-found.ensures.0 c.in-Found.is c.rule_at.ensures
+returns c = from _ _ c.request_of-request.ensures c.form_of.ensures c.market_of.ensures c.find_theory-found.ensures.0 c.in-Some.is c.rule_at.ensures

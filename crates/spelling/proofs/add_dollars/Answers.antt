@@ -6,7 +6,7 @@ use Rattle.spelling.proofs.add_dollars.Goals as goal
 
 pub returns-in-Some : goal.returns-in-Some
 unfolding dollars_text
-returns-in-Some c = let e : c.args.p ≡ Some _ = c.in-At.is in
+returns-in-Some c = let e : c.args.p ≡ Some _ = c.in-Some.is in
     rw e c.add_mills.ensures
 
 pub returns-in-None : goal.returns-in-None

@@ -6,7 +6,7 @@ use Rattle.text.proofs.add_price.Goals as goal
 
 pub returns-in-Some : goal.returns-in-Some
 unfolding price_text
-returns-in-Some c = let e : c.args.p ≡ Some _ = c.in-At.is in
+returns-in-Some c = let e : c.args.p ≡ Some _ = c.in-Some.is in
     rw e c.add_decimal.ensures
 
 pub returns-in-None : goal.returns-in-None
