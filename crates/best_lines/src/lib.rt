@@ -8,7 +8,6 @@ ghost use Rattle.text.specs.Text.{laid_at};
 ghost use Rattle.halves.specs.Halves.{same};
 ghost use Rattle.best_lines.specs.BestLines.{size_text, head_name, amount_text, head_line, quote_line, sayer_line};
 
-use best::Posted;
 use facts::{Mills, Quote};
 use halves::Half;
 use quotes::Posted;
