@@ -35,12 +35,9 @@ pub enum Act {
 pub fn minimum_of(way: Way, band: Band) -> Mills
     ensures { result ≡ minimum_of way band }
 {
-    let obvious = band.obvious;
-    let catastrophic = band.catastrophic;
     match way {
-        Way::Obvious => obvious,
-        Way::Opening => obvious,
-        Way::Catastrophic => catastrophic,
+        Way::Obvious | Way::Opening => band.obvious,
+        Way::Catastrophic => band.catastrophic,
     }
 }
 
@@ -55,45 +52,33 @@ fn other_side(side: Side) -> Side
     }
 }
 
-fn limit_on(side: Side, buyer: Option<Mills>, seller: Option<Mills>) -> Option<Mills>
-    ensures { result ≡ by_side side buyer seller }
-{
-    match side {
-        Side::Buy => buyer,
-        Side::Sell => seller,
-    }
-}
-
 // The side whose limit the opening way tests.
 pub fn opening_tested(side: Side, buyer: Kind, seller: Kind) -> Side
     ensures { result ≡ opening_tested side buyer seller }
 {
-    let other = other_side(side);
-    if parties::is_maker(parties::other_kind(side, buyer, seller)) {
+    if parties::is_maker(parties::by_side(side, seller, buyer)) {
         return side;
     }
-    other
+    other_side(side)
 }
 
 // Whether TP violates the limit that the opening way tests.
 fn opening_stopped(side: Side, buyer: Party, seller: Party, tp: Mills) -> bool
     ensures { result ≡ opening_stopped side buyer seller tp }
 {
-    let buyer_kind = buyer.kind;
-    let seller_kind = seller.kind;
-    let highest = buyer.limit;
-    let lowest = seller.limit;
-    let tested = opening_tested(side, buyer_kind, seller_kind);
-    facts::violates(tested, limit_on(tested, highest, lowest), tp)
+    let tested = opening_tested(side, buyer.kind, seller.kind);
+    facts::violates(
+        tested,
+        parties::by_side(tested, buyer.limit, seller.limit),
+        tp,
+    )
 }
 
 // Whether the party on this side is a Customer whose limit the price violates.
 fn customer_stopped(side: Side, party: Party, price: Mills) -> bool
     ensures { result ≡ customer_stopped side party price }
 {
-    let kind = party.kind;
-    let limit = party.limit;
-    parties::is_customer(kind) & facts::violates(side, limit, price)
+    parties::is_customer(party.kind) & facts::violates(side, party.limit, price)
 }
 
 // Whether the price violates a Customer's limit, each against its own side.
@@ -117,28 +102,24 @@ fn obvious_act(customer: bool, price: Mills) -> Act
 fn opening_act(stopped: bool, maker: bool, tp: Mills) -> Act
     ensures { result ≡ opening_act stopped maker tp }
 {
-    if stopped {
-        if maker {
-            return Act::Leave(4);
-        }
-        return Act::Leave(5);
+    match (stopped, maker) {
+        (true, true) => Act::Leave(4),
+        (true, false) => Act::Leave(5),
+        (false, _) => Act::Adjust(Change {
+            reason: 7,
+            price: tp,
+        }),
     }
-    Act::Adjust(Change {
-        reason: 7,
-        price: tp,
-    })
 }
 
 fn catastrophic_act(stopped: bool, accepted: bool, price: Mills) -> Act
     ensures { result ≡ catastrophic_act stopped accepted price }
 {
-    if stopped {
-        if accepted {
-            return Act::Adjust(Change { reason: 9, price });
-        }
-        return Act::Nullify(12);
+    match (stopped, accepted) {
+        (true, true) => Act::Adjust(Change { reason: 9, price }),
+        (true, false) => Act::Nullify(12),
+        (false, _) => Act::Adjust(Change { reason: 8, price }),
     }
-    Act::Adjust(Change { reason: 8, price })
 }
 
 // The act on a trade in error: `side` is the side in error, `accepted` whether a Customer's acceptance came in
@@ -156,15 +137,12 @@ pub fn find_act(
 ) -> Act
     ensures { (result ≡ act_of way side buyer seller accepted tp band) × (fits (act_outcome result) (act_reason result) ≡ true) × (price_number (act_price result) ≡ price_for (act_reason result) side tp band) }
 {
-    let buyer_kind = buyer.kind;
-    let seller_kind = seller.kind;
-    let by = band.adjustment;
     let near = bands::moved(side, tp, bands::obvious_adjustment(tp));
-    let far = bands::moved(side, tp, by);
+    let far = bands::moved(side, tp, band.adjustment);
     match way {
-        Way::Obvious => obvious_act(parties::any_customer(buyer_kind, seller_kind), near),
+        Way::Obvious => obvious_act(parties::any_customer(buyer.kind, seller.kind), near),
         Way::Opening => {
-            let maker = parties::is_maker(parties::other_kind(side, buyer_kind, seller_kind));
+            let maker = parties::is_maker(parties::by_side(side, seller.kind, buyer.kind));
             opening_act(opening_stopped(side, buyer, seller, tp), maker, tp)
         }
         Way::Catastrophic => {

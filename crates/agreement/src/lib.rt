@@ -38,11 +38,7 @@ pub fn in_time(made: Seconds, customer: bool) -> bool
 fn is_opening(way: Way) -> bool
     ensures { result ≡ is_opening way }
 {
-    match way {
-        Way::Obvious => false,
-        Way::Opening => true,
-        Way::Catastrophic => false,
-    }
+    way == Way::Opening
 }
 
 // Whether an agreement to nullify counts.
@@ -56,18 +52,10 @@ pub fn may_nullify(way: Way, customer: bool) -> bool
 fn terms(agreement: Agreement, agreed: Option<Mills>, nullify: bool) -> Heeded
     ensures { result ≡ terms_of agreement agreed nullify }
 {
-    match agreement {
-        Agreement::NotMade => Heeded::Ignored,
-        Agreement::OnPrice => match agreed {
-            Some(m) => Heeded::Repriced(m),
-            None => Heeded::Ignored,
-        },
-        Agreement::ToNullify => {
-            if nullify {
-                return Heeded::Undone;
-            }
-            Heeded::Ignored
-        }
+    match (agreement, agreed) {
+        (Agreement::OnPrice, Some(price)) => Heeded::Repriced(price),
+        (Agreement::ToNullify, _) if nullify => Heeded::Undone,
+        _ => Heeded::Ignored,
     }
 }
 
@@ -75,13 +63,14 @@ fn terms(agreement: Agreement, agreed: Option<Mills>, nullify: bool) -> Heeded
 pub fn heed(settlement: Settlement, way: Way, customer: bool) -> Heeded
     ensures { (result ≡ heeded_of settlement way customer) × ((heeded_number result ≡ 0) ⊎ (heeded_number result ≡ agreement_number settlement.agreement)) }
 {
-    let made = settlement.made;
-    if in_time(made, customer) {
-        let agreement = settlement.agreement;
-        let agreed = settlement.agreed;
-        return terms(agreement, agreed, may_nullify(way, customer));
+    if !in_time(settlement.made, customer) {
+        return Heeded::Ignored;
     }
-    Heeded::Ignored
+    terms(
+        settlement.agreement,
+        settlement.agreed,
+        may_nullify(way, customer),
+    )
 }
 
 // Whether a Customer accepted in time; where it never did, no.

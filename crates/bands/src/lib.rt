@@ -144,17 +144,7 @@ pub fn moved(side: Side, tp: Mills, by: Mills) -> Mills
     ensures { result ≡ moved_by side tp by }
 {
     match side {
-        Side::Buy => {
-            if 4294967295 - tp.0 < by.0 {
-                return Mills(4294967295);
-            }
-            Mills(tp.0 + by.0)
-        }
-        Side::Sell => {
-            if tp.0 < by.0 {
-                return Mills(0);
-            }
-            Mills(tp.0 - by.0)
-        }
+        Side::Buy => Mills(tp.0.saturating_add(by.0)),
+        Side::Sell => Mills(tp.0.saturating_sub(by.0)),
     }
 }

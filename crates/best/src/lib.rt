@@ -38,13 +38,11 @@ pub struct Looked {
 pub fn last_before(quotes: &[u8], trade_time: u32, exchange: u32) -> Option<Posted>
     ensures { result ≡ last_of exchange (earlier trade_time (posted_in quotes.now)) }
 {
-    let mut n = quotes.len() / 28;
-    while 0 < n {
-        let q = quotes::posted_at(quotes, n - 1);
+    for k in (0..quotes.len() / 28).rev() {
+        let q = quotes::posted_at(quotes, k);
         if (q.time.0 < trade_time) & (q.exchange == exchange) {
             return Some(q);
         }
-        n -= 1;
     }
     None
 }
@@ -69,7 +67,7 @@ fn meet(w: Walk, index: usize, place: usize) -> Walk
     }
     last[index] = place;
     Walk {
-        last: last,
+        last,
         known: w.known + 1,
     }
 }
@@ -98,7 +96,7 @@ fn walk_back(quotes: &[u8], n: usize) -> Back
     }
     let last = w.last;
     Back {
-        last: last,
+        last,
         examined: n - i,
     }
 }
@@ -131,12 +129,8 @@ fn best_price(quotes: &[u8], last: [usize; 16], half: Half) -> Option<Mills>
     ensures { result ≡ best_price half (said half quotes.now last) }
 {
     let mut best = None;
-    let mut i: usize = 16;
-    while 0 < i {
-        i -= 1;
-        let q = said_at(quotes, last[i], half);
-        let p = q.price;
-        best = halves::better(half, p, best);
+    for i in (0..16).rev() {
+        best = halves::better(half, said_at(quotes, last[i], half).price, best);
     }
     best
 }
@@ -147,12 +141,8 @@ fn size_at(quotes: &[u8], last: [usize; 16], half: Half, price: Option<Mills>) -
     ensures { result ≡ size_at price (said half quotes.now last) }
 {
     let mut sum: u64 = 0;
-    let mut i: usize = 16;
-    while 0 < i {
-        i -= 1;
-        let q = said_at(quotes, last[i], half);
-        let size = halves::size_if(price, q);
-        sum += size as u64;
+    for i in (0..16).rev() {
+        sum += halves::size_if(price, said_at(quotes, last[i], half)) as u64;
     }
     sum
 }
@@ -164,7 +154,7 @@ fn best_of(quotes: &[u8], last: [usize; 16], half: Half) -> Quote
     let price = best_price(quotes, last, half);
     let size = halves::capped(size_at(quotes, last, half, price));
     Quote {
-        price: price,
+        price,
         size: Contracts(size),
     }
 }
@@ -190,14 +180,11 @@ fn answer(quotes: &[u8], n: usize) -> Looked
     ensures { result ≡ looked_in (posted_from quotes.now 0 n) }
 {
     let back = walk_back(quotes, n);
-    let last = back.last;
-    let bid = best_of(quotes, last, Half::Bid);
-    let offer = best_of(quotes, last, Half::Offer);
     Looked {
         found: Found {
             refusal: 0,
-            bid: bid,
-            offer: offer,
+            bid: best_of(quotes, back.last, Half::Bid),
+            offer: best_of(quotes, back.last, Half::Offer),
         },
         examined: back.examined,
     }

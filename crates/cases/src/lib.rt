@@ -121,8 +121,7 @@ pub fn read_case(s: &[u8]) -> Reading
 pub fn write_case(f: Facts, out: &mut [u8]) -> u8
     ensures { (result ≡ (writing_of f (length out.old)).0) × (out.new ≡ laid (writing_of f (length out.old)).1 out.old) × Held f }
 {
-    let form = f.form;
-    if out.len() < forms::length_of(form) as usize {
+    if out.len() < forms::length_of(f.form) as usize {
         return 11;
     }
     let n = faults::fault(f);

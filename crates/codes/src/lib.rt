@@ -90,14 +90,11 @@ pub fn agreement_number(a: Agreement) -> u8
 pub fn flag_of(b: u8) -> bool
     ensures { result ≡ flag_of b }
 {
-    match b {
-        1 => true,
-        _ => false,
-    }
+    b == 1
 }
 
 pub fn flag_number(f: bool) -> u8
     ensures { result ≡ flag_number f }
 {
-    if f { 1 } else { 0 }
+    f as u8
 }

@@ -3,7 +3,16 @@
 -- the writer's (docs/PROMISES.md).
 -- `crate.function.Reads.Post` is the promise as Rattle reads it from the contract in the source: of the arguments, the answer, and the
 -- arguments afterwards.
+use denote.RattleType.{RattleType}
+use denote.Param.Laws.{Laws, IsCopy}
+use mir.Syntax.{Dict, w64}
+use mir.Val.{Fits}
 use contract.Lifetimes.{Lfts}
+use Rattle.std.specs.Prelude.{ℕ, ◌≡◌}
+use Rattle.std.specs.declared.clone.Clone.{Ghosts}
+use Rattle.codes.specs.Codes.{kind_number}
+use Rattle.parties.specs.Words.{Side, Kind}
+use Rattle.parties.specs.Parties.{by_side}
 use Rattle.wire.specs.Exact.{Exact, ExactIn}
 use Rattle.wire.proofs as wire
 use Rattle.facts.proofs as facts
@@ -63,8 +72,8 @@ read_u16_exact = wire.Exact.read_u16_exact
 pub read_u32_exact : (κs : Lfts 1) → Exact (wire.read_u32.Reads.Post κs)
 read_u32_exact = wire.Exact.read_u32_exact
 
-pub put_four_exact : (κs : Lfts 1) → ExactIn (λ a. a.0) (wire.put_four.Reads.Post κs)
-put_four_exact = wire.Exact.put_four_exact
+pub put_exact : (n : ℕ) (fits : Fits w64 n) (κs : Lfts 2) → ExactIn (λ a. a.0) (wire.put.Reads.Post n fits κs)
+put_exact = wire.Exact.put_exact
 
 pub put_u16_exact : (κs : Lfts 1) → ExactIn (λ a. a.0) (wire.put_u16.Reads.Post κs)
 put_u16_exact = wire.Exact.put_u16_exact
@@ -277,11 +286,14 @@ is_customer_exact = parties.Exact.is_customer_exact
 pub is_maker_exact : Exact (parties.is_maker.Reads.Post tt)
 is_maker_exact = parties.Exact.is_maker_exact
 
-pub kind_in_error_exact : Exact (parties.kind_in_error.Reads.Post tt)
-kind_in_error_exact = parties.Exact.kind_in_error_exact
+-- of any type that is copied
+pub by_side_exact : (T : RattleType) (laws : Laws T) (copied : IsCopy T) (cloned : Ghosts T.Denot) (dict : Dict) (κs : Lfts 1)
+    → Exact (parties.by_side.Reads.Post T laws copied cloned dict κs)
+by_side_exact = parties.Exact.by_side_exact
 
-pub other_kind_exact : Exact (parties.other_kind.Reads.Post tt)
-other_kind_exact = parties.Exact.other_kind_exact
+-- the kind in error, and the other party's, in the page's numbers
+pub kind_number_by_side : (side : Side) (buyer seller : Kind) → kind_number (by_side side buyer seller) ≡ by_side side (kind_number buyer) (kind_number seller)
+kind_number_by_side = parties.Sides.kind_number_by_side
 
 pub any_customer_exact : Exact (parties.any_customer.Reads.Post tt)
 any_customer_exact = parties.Exact.any_customer_exact

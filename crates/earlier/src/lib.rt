@@ -19,8 +19,7 @@ pub fn count_before(quotes: &[u8], trade_time: u32) -> usize
     let mut high = quotes.len() / 28;
     while low < high {
         let middle = low + (high - low) / 2;
-        let q = quotes::posted_at(quotes, middle);
-        if q.time.0 < trade_time {
+        if quotes::posted_at(quotes, middle).time.0 < trade_time {
             low = middle + 1;
         } else {
             high = middle;
@@ -49,8 +48,7 @@ fn ends_before(quotes: &[u8], trade_time: u32, n: usize) -> bool
     if n == 0 {
         return true;
     }
-    let q = quotes::posted_at(quotes, n - 1);
-    q.time.0 < trade_time
+    quotes::posted_at(quotes, n - 1).time.0 < trade_time
 }
 
 // Whether the quote after them is not, if there is one.
@@ -60,8 +58,7 @@ fn next_is_late(quotes: &[u8], trade_time: u32, n: usize) -> bool
     if quotes.len() / 28 <= n {
         return true;
     }
-    let q = quotes::posted_at(quotes, n);
-    trade_time <= q.time.0
+    trade_time <= quotes::posted_at(quotes, n).time.0
 }
 
 // 28: whether a number is that of the quotes strictly before the trade. At most two quotes are read. Whoever asks has tested that they are in time

@@ -8,13 +8,13 @@ ghost use Rattle.facts.specs.Limits.{violates};
 
 // ---- the three units: none is ever added to another
 
-#[derive(Clone, Copy)]
+#[derive(Clone, Copy, PartialEq, Eq)]
 pub struct Mills(pub u32);
 
-#[derive(Clone, Copy)]
+#[derive(Clone, Copy, PartialEq, Eq)]
 pub struct Contracts(pub u32);
 
-#[derive(Clone, Copy)]
+#[derive(Clone, Copy, PartialEq, Eq)]
 pub struct Seconds(pub u32);
 
 // ---- what may be none
@@ -22,13 +22,13 @@ pub struct Seconds(pub u32);
 // ---- what the coded bytes say
 
 // The side in error.
-#[derive(Clone, Copy)]
+#[derive(Clone, Copy, PartialEq, Eq)]
 pub enum Side {
     Buy,
     Sell,
 }
 
-#[derive(Clone, Copy)]
+#[derive(Clone, Copy, PartialEq, Eq)]
 pub enum Kind {
     Customer,
     MarketMaker,
@@ -36,14 +36,14 @@ pub enum Kind {
 }
 
 // The filing day.
-#[derive(Clone, Copy)]
+#[derive(Clone, Copy, PartialEq, Eq)]
 pub enum Day {
     TradeDate,
     NextDay,
     Later,
 }
 
-#[derive(Clone, Copy)]
+#[derive(Clone, Copy, PartialEq, Eq)]
 pub enum Agreement {
     NotMade,
     OnPrice,
@@ -53,21 +53,21 @@ pub enum Agreement {
 // ---- the facts, in groups
 
 // The form of the record: its kind, with what that kind says besides what every kind says (`forms`).
-#[derive(Clone, Copy)]
+#[derive(Clone, Copy, PartialEq, Eq)]
 pub enum Form {
     One,
     // With the permitted differential.
     Two(Mills),
 }
 
-#[derive(Clone, Copy)]
+#[derive(Clone, Copy, PartialEq, Eq)]
 pub struct Party {
     pub code: [u8; 4],
     pub limit: Option<Mills>,
     pub kind: Kind,
 }
 
-#[derive(Clone, Copy)]
+#[derive(Clone, Copy, PartialEq, Eq)]
 pub struct Trade {
     pub number: u32,
     pub price: Mills,
@@ -75,20 +75,20 @@ pub struct Trade {
     pub executed: Seconds,
 }
 
-#[derive(Clone, Copy)]
+#[derive(Clone, Copy, PartialEq, Eq)]
 pub struct Quote {
     pub price: Option<Mills>,
     pub size: Contracts,
 }
 
-#[derive(Clone, Copy)]
+#[derive(Clone, Copy, PartialEq, Eq)]
 pub struct Market {
     pub bid: Quote,
     pub offer: Quote,
     pub official: Option<Mills>,
 }
 
-#[derive(Clone, Copy)]
+#[derive(Clone, Copy, PartialEq, Eq)]
 pub struct Request {
     pub side: Side,
     pub opening: bool,
@@ -100,7 +100,7 @@ pub struct Request {
 
 // What the parties settled after notice. The agreed price stands beside the agreement, so that
 // the two can contradict each other (refusal 9) in facts that are to be written, too.
-#[derive(Clone, Copy)]
+#[derive(Clone, Copy, PartialEq, Eq)]
 pub struct Settlement {
     pub agreement: Agreement,
     pub agreed: Option<Mills>,
@@ -108,7 +108,7 @@ pub struct Settlement {
     pub accepted: Option<Seconds>,
 }
 
-#[derive(Clone, Copy)]
+#[derive(Clone, Copy, PartialEq, Eq)]
 pub struct Facts {
     pub form: Form,
     pub trade: Trade,
@@ -163,11 +163,9 @@ pub fn moment_number(m: Option<Seconds>) -> u32
 pub fn violates(side: Side, limit: Option<Mills>, price: Mills) -> bool
     ensures { result ≡ violates side limit price }
 {
-    let Some(l) = limit else {
-        return false;
-    };
-    match side {
-        Side::Buy => l.0 < price.0,
-        Side::Sell => price.0 < l.0,
+    match (side, limit) {
+        (_, None) => false,
+        (Side::Buy, Some(highest)) => highest.0 < price.0,
+        (Side::Sell, Some(lowest)) => price.0 < lowest.0,
     }
 }

@@ -13,10 +13,7 @@ use facts::{Agreement, Day, Facts, Mills, Party, Request, Seconds, Settlement, S
 fn code_byte_ok(b: u8) -> bool
     ensures { result ≡ code_byte_ok b }
 {
-    match b {
-        b'A'..=b'Z' | b'0'..=b'9' => true,
-        _ => false,
-    }
+    matches!(b, b'A'..=b'Z' | b'0'..=b'9')
 }
 
 // A code's bytes, asked side by side. No byte below '0' is allowed, and that is asked of all four first: of what is left the compiler then makes one
@@ -39,12 +36,10 @@ fn code_ok(c: [u8; 4]) -> bool
 fn codes_ok(buyer: Party, seller: Party) -> bool
     ensures { result ≡ codes_ok buyer seller }
 {
-    let bought = buyer.code;
-    let sold = seller.code;
-    if !code_ok(bought) {
+    if !code_ok(buyer.code) {
         return false;
     }
-    code_ok(sold)
+    code_ok(seller.code)
 }
 
 // The same of the code that stands at a place of a record: from the bytes themselves, which lie beside each other there.
@@ -82,21 +77,18 @@ fn filed_ok(day: Day, executed: Seconds, filed: Seconds) -> bool
 {
     match day {
         Day::TradeDate => executed.0 <= filed.0,
-        Day::NextDay => true,
-        Day::Later => true,
+        Day::NextDay | Day::Later => true,
     }
 }
 
 fn times_ok(t: Trade, r: Request, s: Settlement) -> bool
     ensures { result ≡ times_ok t r s }
 {
-    let accepted = s.accepted;
-    let day = r.day;
     (t.executed.0 <= 86399)
         & (r.filed.0 <= 86399)
         & (s.made.0 <= 86400)
-        & moment_ok(accepted)
-        & filed_ok(day, t.executed, r.filed)
+        & moment_ok(s.accepted)
+        & filed_ok(r.day, t.executed, r.filed)
 }
 
 // ---- 8: limits
@@ -104,10 +96,8 @@ fn times_ok(t: Trade, r: Request, s: Settlement) -> bool
 fn limits_ok(t: Trade, buyer: Party, seller: Party) -> bool
     ensures { result ≡ limits_ok t buyer seller }
 {
-    let price = t.price;
-    let highest = buyer.limit;
-    let lowest = seller.limit;
-    !facts::violates(Side::Buy, highest, price) & !facts::violates(Side::Sell, lowest, price)
+    !facts::violates(Side::Buy, buyer.limit, t.price)
+        & !facts::violates(Side::Sell, seller.limit, t.price)
 }
 
 // ---- 9: the agreement
@@ -115,19 +105,11 @@ fn limits_ok(t: Trade, buyer: Party, seller: Party) -> bool
 fn agreement_ok(s: Settlement) -> bool
     ensures { result ≡ agreement_ok s.agreement s.agreed s.made }
 {
-    let agreement = s.agreement;
-    let agreed = s.agreed;
-    match agreed {
-        Some(_) => match agreement {
-            Agreement::NotMade => false,
-            Agreement::OnPrice => true,
-            Agreement::ToNullify => false,
-        },
-        None => match agreement {
-            Agreement::NotMade => s.made.0 == 0,
-            Agreement::OnPrice => false,
-            Agreement::ToNullify => true,
-        },
+    match (s.agreement, s.agreed) {
+        (Agreement::NotMade, None) => s.made.0 == 0,
+        (Agreement::OnPrice, Some(_)) => true,
+        (Agreement::ToNullify, None) => true,
+        _ => false,
     }
 }
 

@@ -31,12 +31,12 @@ fn spell(trade: u32, reason: u8, origin: u8, tp: u32, price: u32, counts: Counts
     ensures { result ≡ record { trade = trade; outcome = reason_outcome reason; reason = reason; origin = origin; tp = tp; price = price; adjusted = counts.adjusted.0; nullified = counts.nullified.0; standing = counts.standing.0 } }
 {
     Figures {
-        trade: trade,
+        trade,
         outcome: reasons::outcome_of(reason),
-        reason: reason,
-        origin: origin,
-        tp: tp,
-        price: price,
+        reason,
+        origin,
+        tp,
+        price,
         adjusted: counts.adjusted.0,
         nullified: counts.nullified.0,
         standing: counts.standing.0,
@@ -51,18 +51,12 @@ pub fn judge(case: &[u8]) -> Figures
     ensures { result ≡ figures_of (ruling_of (facts_of case.now)) }
 {
     let r = ruling::rule(case);
-    let outcome = r.outcome;
-    let found = r.tp;
-    let origin = theory::origin_number(found);
-    let tp = theory::tp_number(found);
+    let origin = theory::origin_number(r.tp);
+    let tp = theory::tp_number(r.tp);
     let none = facts::price_number(None);
-    match outcome {
+    match r.outcome {
         Outcome::NoRelief(counts) => spell(r.trade, r.reason, origin, tp, none, counts),
-        Outcome::Adjusted(a) => {
-            let price = a.price;
-            let counts = a.counts;
-            spell(r.trade, r.reason, origin, tp, price.0, counts)
-        }
+        Outcome::Adjusted(a) => { spell(r.trade, r.reason, origin, tp, a.price.0, a.counts) }
         Outcome::Nullified(counts) => spell(r.trade, r.reason, origin, tp, none, counts),
         Outcome::Waiting(counts) => spell(r.trade, r.reason, origin, tp, none, counts),
     }

@@ -94,19 +94,17 @@ fn put_cases(quotes: &[u8], sheet: &[u8], n: usize, out: &mut [u8]) -> Said
     ensures read_value { result.read ≡ read_in quotes.now sheet.now n }
     ensures bytes_bound { (result.bytes ≤ n * 118) × (result.filled ≤ n) × (result.read ≤ n * 2000) }
 {
-    let mut i: usize = 0;
     let mut from: usize = 0;
     let mut at: usize = 0;
     let mut filled: usize = 0;
     let mut read: usize = 0;
-    while i < n {
+    for i in 0..n {
         let step = cut::length_at(sheet, from);
         let p = put_case(quotes, &sheet[from..from + step], i as u32, &mut out[at..]);
         from += step;
         at += p.bytes;
         filled += p.filled;
         read += p.read;
-        i += 1;
     }
     Said {
         bytes: at,

@@ -20,10 +20,8 @@ fn put_quotes(case: &mut [u8], bid: Quote, offer: Quote)
     requires { 88 ≤ length case.old }
     ensures { case.new ≡ filled case.old bid offer }
 {
-    let bid_price = bid.price;
-    let offer_price = offer.price;
-    wire::put_u32(case, 20, facts::price_number(bid_price));
-    wire::put_u32(case, 24, facts::price_number(offer_price));
+    wire::put_u32(case, 20, facts::price_number(bid.price));
+    wire::put_u32(case, 24, facts::price_number(offer.price));
     wire::put_u32(case, 28, bid.size.0);
     wire::put_u32(case, 32, offer.size.0);
 }
@@ -39,11 +37,9 @@ pub fn check_fill(quotes: &[u8], case: &[u8]) -> Tried
             examined: 0,
         };
     }
-    let trade = record::trade_of(case);
-    let would = best::count_and_find(quotes, trade.executed.0);
-    let found = would.found;
+    let would = best::count_and_find(quotes, record::trade_of(case).executed.0);
     Tried {
-        refusal: found.refusal,
+        refusal: would.found.refusal,
         examined: would.examined,
     }
 }
@@ -56,9 +52,7 @@ pub fn fill_case(quotes: &[u8], case: &mut [u8]) -> u8
     if number != 0 {
         return number;
     }
-    let trade = record::trade_of(case);
-    let looked = best::count_and_find(quotes, trade.executed.0);
-    let found = looked.found;
+    let found = best::count_and_find(quotes, record::trade_of(case).executed.0).found;
     if found.refusal != 0 {
         return found.refusal;
     }

@@ -77,8 +77,7 @@ pub fn put_form(out: &mut [u8], form: Form)
     requires { form_length form ≤ length out.old }
     ensures { out.new ≡ stored out.old 88 (form_tail form) }
 {
-    let Form::Two(d) = form else {
-        return;
-    };
-    wire::put_u32(out, 88, d.0);
+    if let Form::Two(differential) = form {
+        wire::put_u32(out, 88, differential.0);
+    }
 }

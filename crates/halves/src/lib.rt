@@ -8,7 +8,7 @@ use facts::{Mills, Quote};
 use quotes::Posted;
 
 // Which half of a quote is asked for.
-#[derive(Clone, Copy)]
+#[derive(Clone, Copy, PartialEq, Eq)]
 pub enum Half {
     Bid,
     Offer,
@@ -37,12 +37,10 @@ fn winner(half: Half, a: Mills, b: Mills) -> Mills
 pub fn better(half: Half, p: Option<Mills>, best: Option<Mills>) -> Option<Mills>
     ensures { result ≡ better half p best }
 {
-    let Some(a) = p else {
-        return best;
-    };
-    match best {
-        Some(b) => Some(winner(half, a, b)),
-        None => p,
+    match (p, best) {
+        (Some(a), Some(b)) => Some(winner(half, a, b)),
+        (Some(_), None) => p,
+        (None, _) => best,
     }
 }
 
@@ -50,14 +48,10 @@ pub fn better(half: Half, p: Option<Mills>, best: Option<Mills>) -> Option<Mills
 pub fn size_if(price: Option<Mills>, q: Quote) -> u32
     ensures { result ≡ size_if price q }
 {
-    let Some(a) = price else {
-        return 0;
-    };
-    let p = q.price;
-    let Some(b) = p else {
-        return 0;
-    };
-    if a.0 == b.0 { q.size.0 } else { 0 }
+    match (price, q.price) {
+        (Some(a), Some(b)) if a.0 == b.0 => q.size.0,
+        _ => 0,
+    }
 }
 
 // A sum of sizes as it is given: at most 1,000,000.

@@ -15,10 +15,7 @@ use figures::Figures;
 fn shows(outcome: u8) -> bool
     ensures { result ≡ shows outcome }
 {
-    match outcome {
-        1..=2 => true,
-        _ => false,
-    }
+    matches!(outcome, 1..=2)
 }
 
 // ---- the stretches of a record
@@ -30,7 +27,7 @@ fn put_head(out: &mut [u8], kind: u16, n: Figures, own: u8)
     wire::put_u16(out, 0, 32);
     wire::put_u16(out, 2, kind);
     wire::put_u32(out, 4, n.trade);
-    wire::put_four(out, 8, n.outcome, n.reason, own, 0);
+    wire::put(out, 8, [n.outcome, n.reason, own, 0]);
 }
 
 fn put_ruled(out: &mut [u8], n: Figures)

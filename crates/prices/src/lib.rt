@@ -27,12 +27,7 @@ fn price_ok(p: Option<Mills>) -> bool
 fn quotes_priced(m: Market) -> bool
     ensures { result ≡ quotes_priced m }
 {
-    let bid = m.bid;
-    let bid_price = bid.price;
-    let offer = m.offer;
-    let offer_price = offer.price;
-    let official = m.official;
-    price_ok(bid_price) & price_ok(offer_price) & price_ok(official)
+    price_ok(m.bid.price) & price_ok(m.offer.price) & price_ok(m.official)
 }
 
 fn differential_ok(p: Option<Mills>) -> bool
@@ -48,25 +43,16 @@ fn differential_ok(p: Option<Mills>) -> bool
 pub fn prices_ok(f: Facts) -> bool
     ensures { result ≡ prices_ok f }
 {
-    let execution = f.trade.price;
-    let market = f.market;
-    let buyer = f.buyer;
-    let highest = buyer.limit;
-    let seller = f.seller;
-    let lowest = seller.limit;
-    let settlement = f.settlement;
-    let agreed = settlement.agreed;
-    let form = f.form;
-    if !mills_ok(execution) {
+    if !mills_ok(f.trade.price) {
         return false;
     }
-    if !quotes_priced(market) {
+    if !quotes_priced(f.market) {
         return false;
     }
-    price_ok(highest)
-        & price_ok(lowest)
-        & price_ok(agreed)
-        & differential_ok(forms::differential_of(form))
+    price_ok(f.buyer.limit)
+        & price_ok(f.seller.limit)
+        & price_ok(f.settlement.agreed)
+        & differential_ok(forms::differential_of(f.form))
 }
 
 // ---- 6: contracts and sizes
@@ -74,8 +60,7 @@ pub fn prices_ok(f: Facts) -> bool
 fn quote_ok(q: Quote) -> bool
     ensures { result ≡ quote_ok q.price q.size }
 {
-    let price = q.price;
-    match price {
+    match q.price {
         Some(m) => (q.size.0 <= 1000000) & ((m.0 == 0) | (1 <= q.size.0)),
         None => q.size.0 == 0,
     }

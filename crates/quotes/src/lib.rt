@@ -33,15 +33,11 @@ pub fn posted_at(s: &[u8], k: usize) -> Posted
     ensures { result ≡ posted_at s.now k }
 {
     let at = k * 28;
-    let exchange = wire::read_u32(s, at + 4);
-    let time = wire::read_u32(s, at + 8);
-    let bid = quote_of(wire::read_u32(s, at + 12), wire::read_u32(s, at + 20));
-    let offer = quote_of(wire::read_u32(s, at + 16), wire::read_u32(s, at + 24));
     Posted {
-        exchange: exchange,
-        time: Seconds(time),
-        bid: bid,
-        offer: offer,
+        exchange: wire::read_u32(s, at + 4),
+        time: Seconds(wire::read_u32(s, at + 8)),
+        bid: quote_of(wire::read_u32(s, at + 12), wire::read_u32(s, at + 20)),
+        offer: quote_of(wire::read_u32(s, at + 16), wire::read_u32(s, at + 24)),
     }
 }
 
@@ -114,17 +110,15 @@ fn list_fault(s: &[u8]) -> u8
     ensures { result ≡ list_fault_of s.now }
 {
     let n = s.len() / 28;
-    let mut k = 0;
     let mut earlier: u32 = 0;
     let mut rising = true;
-    while k < n {
+    for k in 0..n {
         if !record_ok(s, k) {
             return 21;
         }
         let time = wire::read_u32(s, k * 28 + 8);
         rising = rising & (earlier <= time);
         earlier = time;
-        k += 1;
     }
     refusals::unless(rising, 0, 22)
 }

@@ -23,13 +23,10 @@ fn party_at(s: &[u8], at: usize, kind_at: usize) -> Party
     requires { (at + 8 ≤ length s.now) × (kind_at < length s.now) }
     ensures { result ≡ party_at s.now at kind_at }
 {
-    let code = code_at(s, at);
-    let limit = facts::price_of(wire::read_u32(s, at + 4));
-    let kind = codes::kind_of(s[kind_at]);
     Party {
-        code: code,
-        limit: limit,
-        kind: kind,
+        code: code_at(s, at),
+        limit: facts::price_of(wire::read_u32(s, at + 4)),
+        kind: codes::kind_of(s[kind_at]),
     }
 }
 
@@ -51,17 +48,15 @@ pub fn market_of(s: &[u8]) -> Market
     requires { 88 ≤ length s.now }
     ensures { result ≡ market_of s.now }
 {
-    let bid = Quote {
-        price: facts::price_of(wire::read_u32(s, 20)),
-        size: Contracts(wire::read_u32(s, 28)),
-    };
-    let offer = Quote {
-        price: facts::price_of(wire::read_u32(s, 24)),
-        size: Contracts(wire::read_u32(s, 32)),
-    };
     Market {
-        bid: bid,
-        offer: offer,
+        bid: Quote {
+            price: facts::price_of(wire::read_u32(s, 20)),
+            size: Contracts(wire::read_u32(s, 28)),
+        },
+        offer: Quote {
+            price: facts::price_of(wire::read_u32(s, 24)),
+            size: Contracts(wire::read_u32(s, 32)),
+        },
         official: facts::price_of(wire::read_u32(s, 40)),
     }
 }

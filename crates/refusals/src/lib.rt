@@ -29,37 +29,25 @@ fn zeros_ok(s: &[u8]) -> bool
 fn zero_or_one(b: u8) -> bool
     ensures { result ≡ in_range 0 1 b }
 {
-    match b {
-        0..=1 => true,
-        _ => false,
-    }
+    matches!(b, 0..=1)
 }
 
 fn zero_to_two(b: u8) -> bool
     ensures { result ≡ in_range 0 2 b }
 {
-    match b {
-        0..=2 => true,
-        _ => false,
-    }
+    matches!(b, 0..=2)
 }
 
 fn one_or_two(b: u8) -> bool
     ensures { result ≡ in_range 1 2 b }
 {
-    match b {
-        1..=2 => true,
-        _ => false,
-    }
+    matches!(b, 1..=2)
 }
 
 fn one_to_three(b: u8) -> bool
     ensures { result ≡ in_range 1 3 b }
 {
-    match b {
-        1..=3 => true,
-        _ => false,
-    }
+    matches!(b, 1..=3)
 }
 
 fn lists_ok(s: &[u8]) -> bool

@@ -43,18 +43,15 @@ fn put_lines(sheet: &[u8], n: usize, out: &mut [u8]) -> Printed
     ensures bytes_value { (result.bytes ≡ length (header ++ row (line_of sheet.now) n)) × (result.ruled ≡ ruled_in sheet.now n) × (out.new ≡ laid (header ++ row (line_of sheet.now) n) out.old) }
     ensures bytes_bound { (result.bytes ≤ 96 + n * 96) × (result.ruled ≤ n) }
 {
-    let mut i: usize = 0;
     let mut from: usize = 0;
     let mut at = lines::put_header(out);
     let mut ruled: usize = 0;
-    while i < n {
-        let step = cut::said_length(sheet, from);
-        let next = from + step;
+    for i in 0..n {
+        let next = from + cut::said_length(sheet, from);
         let p = put_case(&sheet[from..next], i as u32, &mut out[at..]);
         from = next;
         at += p.bytes;
         ruled += p.ruled;
-        i += 1;
     }
     Printed { bytes: at, ruled }
 }
@@ -96,14 +93,12 @@ fn count_ruled(sheet: &[u8], n: usize) -> usize
     requires { n ≡ cases_in sheet.now }
     ensures { (result ≡ ruled_in sheet.now n) × (result ≤ n) }
 {
-    let mut i: usize = 0;
     let mut at: usize = 0;
     let mut ruled: usize = 0;
-    while i < n {
+    for _i in 0..n {
         let step = cut::length_at(sheet, at);
         ruled += ruled_one(&sheet[at..at + step]);
         at += step;
-        i += 1;
     }
     ruled
 }

@@ -52,13 +52,8 @@ fn covered_by(origin: Origin, contracts: Contracts) -> Contracts
     ensures { result ≡ covered_by origin contracts }
 {
     match origin {
-        Origin::Quoted(size) => {
-            if size.0 < contracts.0 {
-                return size;
-            }
-            contracts
-        }
-        Origin::Official => contracts,
+        Origin::Quoted(size) if size.0 < contracts.0 => size,
+        _ => contracts,
     }
 }
 
@@ -66,19 +61,15 @@ fn cover_on(way: Way, origin: Origin, contracts: Contracts) -> Contracts
     ensures { result ≡ covered way origin contracts }
 {
     match way {
-        Way::Obvious => contracts,
         Way::Opening => covered_by(origin, contracts),
-        Way::Catastrophic => contracts,
+        Way::Obvious | Way::Catastrophic => contracts,
     }
 }
 
 fn rest_of(contracts: Contracts, taken: Contracts) -> Contracts
     ensures { result ≡ rest_of contracts taken }
 {
-    if contracts.0 < taken.0 {
-        return Contracts(0);
-    }
-    Contracts(contracts.0 - taken.0)
+    Contracts(contracts.0.saturating_sub(taken.0))
 }
 
 // ---- the four outcomes
@@ -86,29 +77,27 @@ fn rest_of(contracts: Contracts, taken: Contracts) -> Contracts
 fn no_relief(trade: Trade, reason: u8, tp: Option<Source>) -> Ruling
     ensures { result ≡ no_relief trade reason tp }
 {
-    let contracts = trade.contracts;
     Ruling {
         trade: trade.number,
         outcome: Outcome::NoRelief(Counts {
             adjusted: Contracts(0),
             nullified: Contracts(0),
-            standing: contracts,
+            standing: trade.contracts,
         }),
-        reason: reason,
-        tp: tp,
+        reason,
+        tp,
     }
 }
 
 fn wait(trade: Trade) -> Ruling
     ensures { result ≡ waiting trade }
 {
-    let contracts = trade.contracts;
     Ruling {
         trade: trade.number,
         outcome: Outcome::Waiting(Counts {
             adjusted: Contracts(0),
             nullified: Contracts(0),
-            standing: contracts,
+            standing: trade.contracts,
         }),
         reason: 14,
         tp: None,
@@ -118,15 +107,14 @@ fn wait(trade: Trade) -> Ruling
 fn nullify(trade: Trade, reason: u8, source: Source) -> Ruling
     ensures { result ≡ nullify trade reason source }
 {
-    let contracts = trade.contracts;
     Ruling {
         trade: trade.number,
         outcome: Outcome::Nullified(Counts {
             adjusted: Contracts(0),
-            nullified: contracts,
+            nullified: trade.contracts,
             standing: Contracts(0),
         }),
-        reason: reason,
+        reason,
         tp: Some(source),
     }
 }
@@ -134,21 +122,18 @@ fn nullify(trade: Trade, reason: u8, source: Source) -> Ruling
 fn adjust(trade: Trade, way: Way, source: Source, reason: u8, price: Mills) -> Ruling
     ensures { result ≡ adjust trade way source reason price }
 {
-    let contracts = trade.contracts;
-    let origin = source.origin;
-    let taken = cover_on(way, origin, contracts);
-    let rest = rest_of(contracts, taken);
+    let taken = cover_on(way, source.origin, trade.contracts);
     Ruling {
         trade: trade.number,
         outcome: Outcome::Adjusted(Repricing {
-            price: price,
+            price,
             counts: Counts {
                 adjusted: taken,
                 nullified: Contracts(0),
-                standing: rest,
+                standing: rest_of(trade.contracts, taken),
             },
         }),
-        reason: reason,
+        reason,
         tp: Some(source),
     }
 }
@@ -159,10 +144,7 @@ fn carry_out(trade: Trade, way: Way, source: Source, act: Act) -> Ruling
     ensures { result ≡ carried_out trade way source act }
 {
     match act {
-        Act::Adjust(change) => {
-            let price = change.price;
-            adjust(trade, way, source, change.reason, price)
-        }
+        Act::Adjust(change) => adjust(trade, way, source, change.reason, change.price),
         Act::Nullify(reason) => nullify(trade, reason, source),
         Act::Leave(reason) => no_relief(trade, reason, Some(source)),
     }
@@ -176,11 +158,8 @@ fn settle(case: &[u8], way: Way, source: Source, heeded: Heeded) -> Ruling
     match heeded {
         Heeded::Ignored => {
             let tp = source.price;
-            let request = record::request_of(case);
-            let side = request.side;
-            let settlement = record::settlement_of(case);
-            let accepted = settlement.accepted;
-            let told = agreement::accepted_in_time(accepted);
+            let side = record::request_of(case).side;
+            let told = agreement::accepted_in_time(record::settlement_of(case).accepted);
             let buyer = record::buyer_of(case);
             let seller = record::seller_of(case);
             let act = act::find_act(way, side, buyer, seller, told, tp, bands::band_of(tp));
@@ -197,12 +176,10 @@ fn rule_at(case: &[u8], way: Way, source: Source) -> Ruling
     ensures { result ≡ ruled_at (facts_of case.now) way source }
 {
     let trade = record::trade_of(case);
-    let execution = trade.price;
-    let request = record::request_of(case);
-    let side = request.side;
+    let side = record::request_of(case).side;
     let tp = source.price;
     let minimum = act::minimum_of(way, bands::band_of(tp));
-    if bands::in_error(side, execution, tp, minimum) {
+    if bands::in_error(side, trade.price, tp, minimum) {
         let customer = parties::any_customer(record::buyer_kind(case), record::seller_kind(case));
         let heeded = agreement::heed(record::settlement_of(case), way, customer);
         return settle(case, way, source, heeded);
@@ -215,8 +192,7 @@ fn rule_on(case: &[u8], way: Way) -> Ruling
     requires { 88 ≤ length case.now }
     ensures { result ≡ ruled_on (facts_of case.now) way }
 {
-    let request = record::request_of(case);
-    let side = request.side;
+    let side = record::request_of(case).side;
     let found = theory::find_theory(forms::form_of(case), side, record::market_of(case));
     let Some(source) = found else {
         return wait(record::trade_of(case));
@@ -229,8 +205,7 @@ fn rule_by(case: &[u8], way: Way) -> Ruling
     ensures { result ≡ ruled_by (facts_of case.now) way }
 {
     if let Way::Catastrophic = way {
-        let request = record::request_of(case);
-        if request.decided {
+        if record::request_of(case).decided {
             return no_relief(record::trade_of(case), 3, None);
         }
     }
@@ -243,13 +218,11 @@ pub fn rule(case: &[u8]) -> Ruling
     ensures { (result ≡ ruling_of (facts_of case.now)) × InNumbers (facts_of case.now) result }
 {
     let trade = record::trade_of(case);
-    let executed = trade.executed;
     let request = record::request_of(case);
-    let side = request.side;
     let buyer = record::buyer_kind(case);
     let seller = record::seller_kind(case);
-    let kind = parties::kind_in_error(side, buyer, seller);
-    match way::find_way(executed, request, kind) {
+    let kind = parties::by_side(request.side, buyer, seller);
+    match way::find_way(trade.executed, request, kind) {
         Some(way) => rule_by(case, way),
         None => no_relief(trade, 2, None),
     }

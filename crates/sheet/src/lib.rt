@@ -95,23 +95,20 @@ pub fn rule_sheet(sheet: &[u8], out: &mut [u8]) -> SheetAnswer
     if out.len() < n * 96 {
         return refuse(11);
     }
-    let mut i: usize = 0;
     let mut from: usize = 0;
     let mut at: usize = 0;
     let mut ruled: usize = 0;
-    while i < n {
-        let step = cut::said_length(sheet, from);
-        let next = from + step;
+    for i in 0..n {
+        let next = from + cut::said_length(sheet, from);
         let e = rule_entry(&sheet[from..next], i as u32, &mut out[at..]);
         from = next;
         at += e.bytes;
         ruled += e.ruled;
-        i += 1;
     }
     SheetAnswer {
         refusal: 0,
         written: at,
-        ruled: ruled,
+        ruled,
         refused: n - ruled,
     }
 }

@@ -10,7 +10,7 @@ ghost use Rattle.way.specs.Way.{obvious_time, obvious_open, opening_open, catast
 
 use facts::{Day, Kind, Request, Seconds};
 
-#[derive(Clone, Copy)]
+#[derive(Clone, Copy, PartialEq, Eq)]
 pub enum Way {
     Obvious,
     Opening,
@@ -22,21 +22,13 @@ pub enum Way {
 pub fn is_trade_date(d: Day) -> bool
     ensures { result ≡ is_trade_date d }
 {
-    match d {
-        Day::TradeDate => true,
-        Day::NextDay => false,
-        Day::Later => false,
-    }
+    d == Day::TradeDate
 }
 
 pub fn is_next_day(d: Day) -> bool
     ensures { result ≡ is_next_day d }
 {
-    match d {
-        Day::TradeDate => false,
-        Day::NextDay => true,
-        Day::Later => false,
-    }
+    d == Day::NextDay
 }
 
 // At most the other, of two times or of two counts of seconds.
@@ -60,9 +52,8 @@ pub fn obvious_time(kind: Kind) -> Seconds
     ensures { result ≡ obvious_time kind }
 {
     match kind {
-        Kind::Customer => Seconds(1200),
         Kind::MarketMaker => Seconds(300),
-        Kind::Other => Seconds(1200),
+        Kind::Customer | Kind::Other => Seconds(1200),
     }
 }
 
@@ -95,8 +86,7 @@ fn catastrophic_open(day: Day, expiry: bool, filed: Seconds) -> bool
 pub fn find_way(executed: Seconds, request: Request, kind: Kind) -> Option<Way>
     ensures { result ≡ way_of executed request kind }
 {
-    let day = request.day;
-    let filed = request.filed;
+    let Request { day, filed, .. } = request;
     if obvious_open(day, executed, filed, kind) {
         return Some(Way::Obvious);
     }

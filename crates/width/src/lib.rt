@@ -18,18 +18,8 @@ fn apart(differential: Mills, bid: Mills, offer: Mills) -> bool
 pub fn is_wide(differential: Option<Mills>, market: Market) -> bool
     ensures { result ≡ wide differential market.bid.price market.offer.price }
 {
-    let bid = market.bid;
-    let bid_price = bid.price;
-    let offer = market.offer;
-    let offer_price = offer.price;
-    let Some(d) = differential else {
-        return false;
-    };
-    let Some(b) = bid_price else {
-        return false;
-    };
-    let Some(o) = offer_price else {
-        return false;
-    };
-    apart(d, b, o)
+    match (differential, market.bid.price, market.offer.price) {
+        (Some(d), Some(bid), Some(offer)) => apart(d, bid, offer),
+        _ => false,
+    }
 }

@@ -32,31 +32,27 @@ fn put_market(out: &mut [u8], m: Market)
     requires { 88 ≤ length out.old }
     ensures { out.new ≡ stored out.old 20 (market_bytes m) }
 {
-    let bid = m.bid;
-    let offer = m.offer;
-    let official = m.official;
-    let bid_price = bid.price;
-    let offer_price = offer.price;
-    wire::put_u32(out, 20, facts::price_number(bid_price));
-    wire::put_u32(out, 24, facts::price_number(offer_price));
-    wire::put_u32(out, 28, bid.size.0);
-    wire::put_u32(out, 32, offer.size.0);
+    wire::put_u32(out, 20, facts::price_number(m.bid.price));
+    wire::put_u32(out, 24, facts::price_number(m.offer.price));
+    wire::put_u32(out, 28, m.bid.size.0);
+    wire::put_u32(out, 32, m.offer.size.0);
     wire::put_u32(out, 36, 0);
-    wire::put_u32(out, 40, facts::price_number(official));
+    wire::put_u32(out, 40, facts::price_number(m.official));
 }
 
 fn put_flags(out: &mut [u8], r: Request)
     requires { 88 ≤ length out.old }
     ensures { out.new ≡ stored out.old 44 (flag_bytes r) }
 {
-    let side = r.side;
-    wire::put_four(
+    wire::put(
         out,
         44,
-        codes::side_number(side),
-        codes::flag_number(r.opening),
-        codes::flag_number(r.expiry),
-        codes::flag_number(r.decided),
+        [
+            codes::side_number(r.side),
+            codes::flag_number(r.opening),
+            codes::flag_number(r.expiry),
+            codes::flag_number(r.decided),
+        ],
     );
 }
 
@@ -64,31 +60,23 @@ fn put_party(out: &mut [u8], at: usize, p: Party)
     requires { at + 8 ≤ length out.old }
     ensures { out.new ≡ party_stored out.old at p }
 {
-    let code = p.code;
-    let limit = p.limit;
-    wire::put_four(out, at, code[0], code[1], code[2], code[3]);
-    wire::put_u32(out, at + 4, facts::price_number(limit));
+    wire::put(out, at, p.code);
+    wire::put_u32(out, at + 4, facts::price_number(p.limit));
 }
 
 fn put_lists(out: &mut [u8], f: Facts)
     requires { 88 ≤ length out.old }
     ensures { out.new ≡ stored out.old 64 (list_bytes f) }
 {
-    let buyer = f.buyer;
-    let buyer_kind = buyer.kind;
-    let seller = f.seller;
-    let seller_kind = seller.kind;
-    let request = f.request;
-    let day = request.day;
-    let settlement = f.settlement;
-    let agreement = settlement.agreement;
-    wire::put_four(
+    wire::put(
         out,
         64,
-        codes::kind_number(buyer_kind),
-        codes::kind_number(seller_kind),
-        codes::day_number(day),
-        codes::agreement_number(agreement),
+        [
+            codes::kind_number(f.buyer.kind),
+            codes::kind_number(f.seller.kind),
+            codes::day_number(f.request.day),
+            codes::agreement_number(f.settlement.agreement),
+        ],
     );
 }
 
@@ -96,12 +84,10 @@ fn put_tail(out: &mut [u8], filed: Seconds, s: Settlement)
     requires { 88 ≤ length out.old }
     ensures { out.new ≡ stored out.old 68 (tail_bytes filed s) }
 {
-    let agreed = s.agreed;
-    let accepted = s.accepted;
-    wire::put_u32(out, 68, facts::price_number(agreed));
+    wire::put_u32(out, 68, facts::price_number(s.agreed));
     wire::put_u32(out, 72, filed.0);
     wire::put_u32(out, 76, s.made.0);
-    wire::put_u32(out, 80, facts::moment_number(accepted));
+    wire::put_u32(out, 80, facts::moment_number(s.accepted));
     wire::put_u32(out, 84, 0);
 }
 
@@ -110,8 +96,7 @@ pub fn put_facts(out: &mut [u8], f: Facts)
     requires { (88 ≤ length out.old) × (form_length f.form ≤ length out.old) }
     ensures { out.new ≡ laid (record_bytes f) out.old }
 {
-    let form = f.form;
-    put_head(out, form);
+    put_head(out, f.form);
     put_trade(out, f.trade);
     put_market(out, f.market);
     put_flags(out, f.request);
@@ -119,5 +104,5 @@ pub fn put_facts(out: &mut [u8], f: Facts)
     put_party(out, 56, f.seller);
     put_lists(out, f);
     put_tail(out, f.request.filed, f.settlement);
-    forms::put_form(out, form);
+    forms::put_form(out, f.form);
 }

@@ -1,14 +1,14 @@
 use Rattle.act.specs.Act.{catastrophic_act}
 use Rattle.act.proofs.catastrophic_act.Goals as goal
 
-pub returns-then-accepted : goal.returns-then-accepted
+pub returns-in-true-true : goal.returns-in-true-true
 unfolding catastrophic_act
-returns-then-accepted c = simp (c.if-stopped.true, c.if-accepted.true)
+returns-in-true-true c = simp (c.in-true-true.is-0, c.in-true-true.is-1)
 
-pub returns-then-stopped : goal.returns-then-stopped
+pub returns-in-true-false : goal.returns-in-true-false
 unfolding catastrophic_act
-returns-then-stopped c = simp (c.if-stopped.true, c.if-accepted.false)
+returns-in-true-false c = simp (c.in-true-false.is-0, c.in-true-false.is-1)
 
-pub returns : goal.returns
+pub returns-in-false-default : goal.returns-in-false-default
 unfolding catastrophic_act
-returns c = simp c.if-stopped.false
+returns-in-false-default c = simp c.in-false-default.is-0

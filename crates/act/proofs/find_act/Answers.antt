@@ -48,7 +48,7 @@ returns-in-Obvious c = let a = c.args in with_numbers a.way a.side a.buyer a.sel
 pub returns-in-Opening : goal.returns-in-Opening
 returns-in-Opening c = let a = c.args in with_numbers a.way a.side a.buyer a.seller a.accepted a.tp a.band _
     (on_opening a.way a.side a.buyer a.seller a.accepted a.tp a.band
-    c.in-Opening.is c.other_kind.ensures.0 c.is_maker-maker.ensures
+    c.in-Opening.is c.by_side.ensures c.is_maker-maker.ensures
     c.opening_stopped.ensures c.opening_act.ensures)
 
 pub returns-in-Catastrophic : goal.returns-in-Catastrophic

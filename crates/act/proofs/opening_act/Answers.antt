@@ -1,14 +1,14 @@
 use Rattle.act.specs.Act.{opening_act}
 use Rattle.act.proofs.opening_act.Goals as goal
 
-pub returns-then-maker : goal.returns-then-maker
+pub returns-in-true-true : goal.returns-in-true-true
 unfolding opening_act
-returns-then-maker c = simp (c.if-stopped.true, c.if-maker.true)
+returns-in-true-true c = simp (c.in-true-true.is-0, c.in-true-true.is-1)
 
-pub returns-then-stopped : goal.returns-then-stopped
+pub returns-in-true-false : goal.returns-in-true-false
 unfolding opening_act
-returns-then-stopped c = simp (c.if-stopped.true, c.if-maker.false)
+returns-in-true-false c = simp (c.in-true-false.is-0, c.in-true-false.is-1)
 
-pub returns : goal.returns
+pub returns-in-false-default : goal.returns-in-false-default
 unfolding opening_act
-returns c = simp c.if-stopped.false
+returns-in-false-default c = simp c.in-false-default.is-0

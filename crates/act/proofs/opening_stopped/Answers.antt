@@ -16,4 +16,4 @@ stopped side buyer seller tp tested limit violated = cc
 
 pub returns : goal.returns
 returns c = let a = c.args in stopped a.side a.buyer a.seller a.tp
-    c.opening_tested-tested.ensures c.limit_on.ensures c.violates.ensures
+    c.opening_tested-tested.ensures c.by_side.ensures c.violates.ensures

@@ -15,8 +15,8 @@ module _ (side : Side) (buyer seller : Kind) {other : Kind} {maker : Bool} (kind
   against_another opposite failed = let m : is_maker (by_side side seller buyer) ≡ false = cc in simp m opposite
 
 pub returns-then-is_maker : goal.returns-then-is_maker
-returns-then-is_maker c = let a = c.args in against_a_maker a.side a.buyer a.seller c.other_kind.ensures.0 c.is_maker.ensures c.if-is_maker.true
+returns-then-is_maker c = let a = c.args in against_a_maker a.side a.buyer a.seller c.by_side.ensures c.is_maker.ensures c.if-is_maker.true
 
 pub returns : goal.returns
-returns c = let a = c.args in against_another a.side a.buyer a.seller c.other_kind.ensures.0 c.is_maker.ensures
-    c.other_side-other.ensures c.if-is_maker.false
+returns c = let a = c.args in against_another a.side a.buyer a.seller c.by_side.ensures c.is_maker.ensures
+    c.other_side.ensures c.if-is_maker.false

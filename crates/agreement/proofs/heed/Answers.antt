@@ -16,11 +16,11 @@ module _ (s : Settlement) (way : Way) (customer : Bool) {timely : Bool} (time : 
   unfolding heeded_of
   too_late failed = let t : in_time s.made customer ≡ false = cc in simp t
 
-pub returns-then-in_time : goal.returns-then-in_time
-returns-then-in_time c = let a = c.args in numbered a.settlement a.way a.customer
-    (in_time_lem a.settlement a.way a.customer c.in_time.ensures
-    c.if-in_time.true c.may_nullify.ensures c.terms.ensures)
-
 pub returns : goal.returns
 returns c = let a = c.args in numbered a.settlement a.way a.customer
-    (too_late a.settlement a.way a.customer c.in_time.ensures c.if-in_time.false)
+    (in_time_lem a.settlement a.way a.customer c.in_time.ensures
+    c.if-not-in_time.false c.may_nullify.ensures c.terms.ensures)
+
+pub returns-then-not-in_time : goal.returns-then-not-in_time
+returns-then-not-in_time c = let a = c.args in numbered a.settlement a.way a.customer
+    (too_late a.settlement a.way a.customer c.in_time.ensures c.if-not-in_time.true)

@@ -9,4 +9,4 @@ loop-i-init c = let h : length c.args.last ≡ 16 = omega arith in
     (omega arith, (h, best_start _ _ c.args.last 16 (omega arith)))
 
 pub loop-i-preserved : goal.loop-i-preserved
-loop-i-preserved c = let a = c.args in (omega arith, (c.loop-i.invariant.1.0, best_turn _ _ a.last c.loop-i.i _ _ _ (omega arith) (omega arith) c.said_at-q.ensures c.loop-i.invariant.1.1 c.better-best.ensures))
+loop-i-preserved c = let a = c.args in (omega arith, (c.loop-i.invariant.1.0, best_turn _ _ a.last c.loop-i.i _ _ _ (omega arith) (omega arith) c.said_at.ensures c.loop-i.invariant.1.1 c.better-best.ensures))

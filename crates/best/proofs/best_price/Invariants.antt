@@ -7,6 +7,3 @@ use Rattle.best.proofs.best_price.Given as goal
 
 abbrev pub invariant-loop-i : goal.invariant-loop-i
 invariant-loop-i l = (l.i ≤ 16) × ((length l.last ≡ 16) × (l.best ≡ best_price l.half (drop l.i (said l.half l.quotes l.last))))
-
-abbrev pub decreases-loop-i : goal.decreases-loop-i
-decreases-loop-i l = l.i

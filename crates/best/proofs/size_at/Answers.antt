@@ -9,4 +9,4 @@ loop-i-init c = let h : length c.args.last ≡ 16 = omega arith in
     (omega arith, (h, (omega arith, size_start _ _ c.args.last _ 16 (omega arith))))
 
 pub loop-i-preserved : goal.loop-i-preserved
-loop-i-preserved c = let a = c.args in (omega arith, (c.loop-i.invariant.1.0, (omega arith, size_turn _ _ a.last _ c.loop-i.i _ _ _ (omega arith) (omega arith) c.said_at-q.ensures c.loop-i.invariant.1.1.1 c.size_if-size.ensures)))
+loop-i-preserved c = let a = c.args in (omega arith, (c.loop-i.invariant.1.0, (omega arith, size_turn _ _ a.last _ c.loop-i.i _ _ _ (omega arith) (omega arith) c.said_at.ensures c.loop-i.invariant.1.1.1 c.size_if.ensures)))

@@ -4,6 +4,3 @@ use Rattle.fill_report.proofs.put_cases.Given as goal
 
 abbrev pub invariant-loop-i : goal.invariant-loop-i
 invariant-loop-i l = Turn l.quotes l.sheet l.initial.out l.out l.i l.from l.at l.filled l.read
-
-abbrev pub decreases-loop-i : goal.decreases-loop-i
-decreases-loop-i l = l.n - l.i

@@ -7,6 +7,3 @@ use Rattle.quotes.proofs.list_fault.Given as goal
 
 abbrev pub invariant-loop-k : goal.invariant-loop-k
 invariant-loop-k l = (l.k ≤ length l.s / 28) × (records_ok l.s l.k (l.n - l.k) ≡ records_ok l.s 0 l.n) × ((l.rising && rising_from l.earlier (posted_from l.s l.k (l.n - l.k))) ≡ rising_from 0 (posted_from l.s 0 l.n))
-
-abbrev pub decreases-loop-k : goal.decreases-loop-k
-decreases-loop-k l = l.n - l.k

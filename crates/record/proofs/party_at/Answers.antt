@@ -3,7 +3,7 @@ use Rattle.record.proofs.party_at.Goals as goal
 
 pub returns : goal.returns
 returns c = party_read _ _ _
-    c.code_at-code.ensures
+    c.code_at.ensures
     c.read_u32.ensures
-    c.price_of-limit.ensures.0
-    c.kind_of-kind.ensures.0
+    c.price_of.ensures.0
+    c.kind_of.ensures.0

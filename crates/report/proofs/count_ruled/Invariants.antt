@@ -6,6 +6,3 @@ use Rattle.report.proofs.count_ruled.Given as goal
 
 abbrev pub invariant-loop-i : goal.invariant-loop-i
 invariant-loop-i l = At l.sheet l.i l.at × (l.ruled ≡ ruled_in l.sheet l.i)
-
-abbrev pub decreases-loop-i : goal.decreases-loop-i
-decreases-loop-i l = l.n - l.i

@@ -5,6 +5,3 @@ use Rattle.report.proofs.put_lines.Given as goal
 
 abbrev pub invariant-loop-i : goal.invariant-loop-i
 invariant-loop-i l = Turn l.initial.at case_line 96 l.sheet l.initial.out l.out l.i l.from l.at l.ruled
-
-abbrev pub decreases-loop-i : goal.decreases-loop-i
-decreases-loop-i l = l.n - l.i

@@ -29,12 +29,12 @@ pub returns-in-Some : goal.returns-in-Some
 returns-in-Some c = ruled _ _
     (by_way _
     c.trade_of-trade.ensures c.request_of-request.ensures c.buyer_kind-buyer.ensures c.seller_kind-seller.ensures
-    c.kind_in_error-kind.ensures.0 c.find_way.ensures c.in-Some.is c.rule_by.ensures)
+    c.by_side-kind.ensures c.find_way.ensures c.in-Some.is c.rule_by.ensures)
 
 pub returns-in-None : goal.returns-in-None
 unfolding facts_of
 returns-in-None c = ruled _ _
     (by_way _
     c.trade_of-trade.ensures c.request_of-request.ensures c.buyer_kind-buyer.ensures c.seller_kind-seller.ensures
-    c.kind_in_error-kind.ensures.0 c.find_way.ensures c.in-None.is
+    c.by_side-kind.ensures c.find_way.ensures c.in-None.is
     (c.no_relief.ensures ∙ ap (λ (t : Trade). no_relief t 2 None) c.trade_of-trade.ensures))

@@ -40,11 +40,11 @@ module _ (s : List ℕ) (way : Way) (source : Source) {trade : Trade} {request :
 
 pub returns-then-in_error : goal.returns-then-in_error
 returns-then-in_error c = off _ _ _
-    c.trade_of-trade.ensures c.request_of-request.ensures c.band_of.ensures c.minimum_of-minimum.ensures c.in_error.ensures
+    c.trade_of-trade.ensures c.request_of-side.ensures c.band_of.ensures c.minimum_of-minimum.ensures c.in_error.ensures
     c.if-in_error.true c.buyer_kind.ensures c.seller_kind.ensures c.any_customer-customer.ensures
     c.settlement_of.ensures c.heed-heeded.ensures.0 c.settle.ensures
 
 pub returns : goal.returns
 returns c = not_off _ _ _
-    c.trade_of-trade.ensures c.request_of-request.ensures c.band_of.ensures c.minimum_of-minimum.ensures c.in_error.ensures
+    c.trade_of-trade.ensures c.request_of-side.ensures c.band_of.ensures c.minimum_of-minimum.ensures c.in_error.ensures
     c.if-in_error.false c.no_relief.ensures

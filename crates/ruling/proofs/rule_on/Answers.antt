@@ -24,8 +24,8 @@ from s way {t = t} request form market found case ruled =
 
 pub returns-in_default : goal.returns-in_default
 unfolding facts_of
-returns-in_default c = from _ _ c.request_of-request.ensures c.form_of.ensures c.market_of.ensures c.find_theory-found.ensures.0 c.in_default.is
+returns-in_default c = from _ _ c.request_of-side.ensures c.form_of.ensures c.market_of.ensures c.find_theory-found.ensures.0 c.in_default.is
     (c.wait.ensures ∙ ap waiting c.trade_of.ensures)
 
 pub returns : goal.returns
-returns c = from _ _ c.request_of-request.ensures c.form_of.ensures c.market_of.ensures c.find_theory-found.ensures.0 c.in-Some.is c.rule_at.ensures
+returns c = from _ _ c.request_of-side.ensures c.form_of.ensures c.market_of.ensures c.find_theory-found.ensures.0 c.in-Some.is c.rule_at.ensures

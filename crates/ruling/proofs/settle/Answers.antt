@@ -29,8 +29,8 @@ pub returns-in-Ignored : goal.returns-in-Ignored
 returns-in-Ignored c = let e : c.args.heeded ≡ Ignored = c.in-Ignored.is in
     simp e
     (acted _ _ _
-    c.request_of-request.ensures
-    c.settlement_of-settlement.ensures
+    c.request_of-side.ensures
+    c.settlement_of.ensures
     c.accepted_in_time-told.ensures
     c.buyer_of-buyer.ensures
     c.seller_of-seller.ensures

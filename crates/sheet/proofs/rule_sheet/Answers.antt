@@ -25,14 +25,14 @@ returns-then-out-n c = let k = c.whole_cases-c.ensures in ends _ _ _ (sheet_room
 pub loop-i-init : goal.loop-i-init
 loop-i-init c = first 0 entry_bytes 96 _ _ zero-le
 
-pub said_length-step-requires : goal.said_length-step-requires
-said_length-step-requires c = (omega arith, at_more _ _ _ c.loop-i.invariant.walked (omega arith))
+pub said_length-requires : goal.said_length-requires
+said_length-requires c = (omega arith, at_more _ _ _ c.loop-i.invariant.walked (omega arith))
 
 pub overflow_cast-i : goal.overflow_cast-i
 overflow_cast-i c = let k = c.whole_cases-c.ensures in omega (arith, k.1, whole_few _ (sym k.0 ∙ holds _ c.if-not-c.false))
 
 pub rule_entry-e-requires : goal.rule_entry-e-requires
-rule_entry-e-requires c = (at_is _ _ _ _ c.loop-i.invariant.walked (omega arith) c.said_length-step.ensures.0, simp (length-take, length-drop) (omega arith))
+rule_entry-e-requires c = (at_is _ _ _ _ c.loop-i.invariant.walked (omega arith) c.said_length.ensures.0, simp (length-take, length-drop) (omega arith))
 
 pub overflow_add-at : goal.overflow_add-at
 overflow_add-at c = omega (arith, bytes_most _ _ _ c.rule_entry-e.ensures.0)
@@ -41,7 +41,7 @@ pub overflow_add-ruled : goal.overflow_add-ruled
 overflow_add-ruled c = omega (arith, few_more _ _ c.rule_entry-e.ensures.1)
 
 pub loop-i-preserved : goal.loop-i-preserved
-loop-i-preserved c = next 0 entry_bytes 96 entry_most _ _ _ _ _ _ _ _ _ _ _ c.loop-i.invariant (omega arith) c.said_length-step.ensures.0 c.rule_entry-e.ensures c.out-1.given.1
+loop-i-preserved c = next 0 entry_bytes 96 entry_most _ _ _ _ _ _ _ _ _ _ _ c.loop-i.invariant (omega arith) c.said_length.ensures.0 c.rule_entry-e.ensures c.out-1.given.1
 
 pub returns : goal.returns
 returns c = let k = c.whole_cases-c.ensures in let v = c.loop-i.invariant in let a = c.args in let done : c.loop-i.i ≡ cases_in a.sheet.now = omega (arith, k.1, v.walked.within) in

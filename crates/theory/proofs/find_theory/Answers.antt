@@ -28,5 +28,5 @@ returns-then-is_wide c = let a = c.args in let t = asked a.form a.market c.diffe
 
 pub returns : goal.returns
 returns c = let a = c.args in let t = asked a.form a.market c.differential_of.ensures c.is_wide.ensures c.if-is_wide.false in
-    let quote = ap (λ (q : Quote). source_of q.price q.size a.market.official) c.quote_for-quote.ensures in
+    let quote = ap (λ (q : Quote). source_of q.price q.size a.market.official) c.quote_for.ensures in
     in_numbers a.form a.side a.market _ (c.take_source.ensures ∙ quote ∙ sym (theory_trusted a.form a.side a.market t))
