@@ -1,16 +1,16 @@
 -- Each callable function's promise, as Rattle reads it from the contract, allows one result.
 use mathlib.Core.Path.{sym, ◌∙◌}
 use Rattle.wire.specs.Exact.{Exact}
-use Rattle.codes.proofs.side_of.Reads as side_of
-use Rattle.codes.proofs.side_number.Reads as side_number
-use Rattle.codes.proofs.kind_of.Reads as kind_of
-use Rattle.codes.proofs.kind_number.Reads as kind_number
-use Rattle.codes.proofs.day_of.Reads as day_of
-use Rattle.codes.proofs.day_number.Reads as day_number
-use Rattle.codes.proofs.agreement_of.Reads as agreement_of
-use Rattle.codes.proofs.agreement_number.Reads as agreement_number
-use Rattle.codes.proofs.flag_of.Reads as flag_of
-use Rattle.codes.proofs.flag_number.Reads as flag_number
+use Rattle.codes.proofs.SideCoded.from_byte.Reads as side_of
+use Rattle.codes.proofs.SideCoded.byte.Reads as side_number
+use Rattle.codes.proofs.KindCoded.from_byte.Reads as kind_of
+use Rattle.codes.proofs.KindCoded.byte.Reads as kind_number
+use Rattle.codes.proofs.DayCoded.from_byte.Reads as day_of
+use Rattle.codes.proofs.DayCoded.byte.Reads as day_number
+use Rattle.codes.proofs.AgreementCoded.from_byte.Reads as agreement_of
+use Rattle.codes.proofs.AgreementCoded.byte.Reads as agreement_number
+use Rattle.codes.proofs.BoolCoded.from_byte.Reads as flag_of
+use Rattle.codes.proofs.BoolCoded.byte.Reads as flag_number
 
 pub side_of_exact : Exact (side_of.Post tt)
 side_of_exact a e e' r r' p q = p.0 ∙ sym q.0
@@ -25,7 +25,7 @@ pub agreement_of_exact : Exact (agreement_of.Post tt)
 agreement_of_exact a e e' r r' p q = p.0 ∙ sym q.0
 
 pub flag_of_exact : Exact (flag_of.Post tt)
-flag_of_exact a e e' r r' p q = p ∙ sym q
+flag_of_exact a e e' r r' p q = p.0 ∙ sym q.0
 
 pub side_number_exact : Exact (side_number.Post tt)
 side_number_exact a e e' r r' p q = p ∙ sym q

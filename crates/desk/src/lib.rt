@@ -14,6 +14,7 @@ ghost use Rattle.filling.specs.Filling.{filling_of};
 ghost use Rattle.desk.specs.Desk.{desk_sheet, desk_best};
 
 use best::Looked;
+use sheet::SheetAnswer;
 
 // What became of a sheet: the number where it was refused whole, else 0; the bytes written; the cases ruled and refused.
 #[repr(C)]
@@ -23,6 +24,19 @@ pub struct DeskSheet {
     pub written: u64,
     pub ruled: u64,
     pub refused: u64,
+}
+
+impl From<SheetAnswer> for DeskSheet {
+    ghost from_gives = { λ a r. r ≡ desk_sheet a };
+
+    fn from(a: SheetAnswer) -> DeskSheet {
+        DeskSheet {
+            refusal: a.refusal as u64,
+            written: a.written as u64,
+            ruled: a.ruled as u64,
+            refused: a.refused as u64,
+        }
+    }
 }
 
 // What a lookup answers: the number where it was refused, else 0; bid and offer in mills, 4,294,967,295 for none, and their sizes; how many quotes were
@@ -36,6 +50,21 @@ pub struct DeskBest {
     pub bid_size: u64,
     pub offer_size: u64,
     pub examined: u64,
+}
+
+impl From<Looked> for DeskBest {
+    ghost from_gives = { λ l r. r ≡ desk_best l };
+
+    fn from(l: Looked) -> DeskBest {
+        DeskBest {
+            refusal: l.found.refusal as u64,
+            bid: facts::price_number(l.found.bid.price) as u64,
+            offer: facts::price_number(l.found.offer.price) as u64,
+            bid_size: l.found.bid.size.0 as u64,
+            offer_size: l.found.offer.size.0 as u64,
+            examined: l.examined as u64,
+        }
+    }
 }
 
 // Tests a case: its number, 0 if it is accepted.
@@ -56,13 +85,7 @@ pub fn desk_rule_case(case: &[u8], out: &mut [u8]) -> u32
 pub fn desk_rule_sheet(sheet: &[u8], out: &mut [u8]) -> DeskSheet
     ensures { (result ≡ desk_sheet (sheet_of sheet.now (length out.old)).0) × (out.new ≡ laid (sheet_of sheet.now (length out.old)).1 out.old) }
 {
-    let a = sheet::rule_sheet(sheet, out);
-    DeskSheet {
-        refusal: a.refusal as u64,
-        written: a.written as u64,
-        ruled: a.ruled as u64,
-        refused: a.refused as u64,
-    }
+    DeskSheet::from(sheet::rule_sheet(sheet, out))
 }
 
 // Prints a sheet: how many bytes of the buffer are its text.
@@ -70,24 +93,6 @@ pub fn desk_print_sheet(sheet: &[u8], out: &mut [u8; 65536]) -> u64
     ensures { (result ≡ length (text_of sheet.now)) × (out.new ≡ laid (text_of sheet.now) out.old) }
 {
     report::print_sheet(sheet, out) as u64
-}
-
-fn desk_best(l: Looked) -> DeskBest
-    ensures { result ≡ desk_best l }
-{
-    let f = l.found;
-    let bid = f.bid;
-    let bid_price = bid.price;
-    let offer = f.offer;
-    let offer_price = offer.price;
-    DeskBest {
-        refusal: f.refusal as u64,
-        bid: facts::price_number(bid_price) as u64,
-        offer: facts::price_number(offer_price) as u64,
-        bid_size: bid.size.0 as u64,
-        offer_size: offer.size.0 as u64,
-        examined: l.examined as u64,
-    }
 }
 
 // The number of quotes strictly before a trade: 0 where the quotes or the time are refused.
@@ -101,7 +106,7 @@ pub fn desk_quotes_before(quotes: &[u8], trade_time: u32) -> u64
 pub fn desk_best_quotes(quotes: &[u8], trade_time: u32, before: u64) -> DeskBest
     ensures { result ≡ desk_best (looked_of quotes.now trade_time before) }
 {
-    desk_best(best::find_best(quotes, trade_time, before as usize))
+    DeskBest::from(best::find_best(quotes, trade_time, before as usize))
 }
 
 // Fills a case with the best bid and offer at its own execution time: its number, 0 if it is filled.

@@ -7,6 +7,7 @@ ghost use Rattle.wire.specs.Numbers.{bytes, elements, stored};
 ghost use Rattle.wire.specs.Laid.{laid};
 ghost use Rattle.notices.specs.Records.{start_bytes, ruled_bytes, ruling_record, told_bytes, shows, shown_code, code_bytes, notice_record, answer_records};
 
+use codes::Coded;
 use facts::Side;
 use figures::Figures;
 
@@ -85,7 +86,7 @@ fn put_notice(out: &mut [u8], n: Figures, recipient: Side, code: u32, other: u32
     requires { 32 ≤ length out.old }
     ensures { out.new ≡ laid (notice_record n recipient (bytes 4 code) (bytes 4 other)) out.old }
 {
-    put_head(out, 17, n, codes::side_number(recipient));
+    put_head(out, 17, n, recipient.byte());
     put_told(out, n);
     put_codes(out, n.outcome, code, other);
 }

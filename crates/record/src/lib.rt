@@ -6,8 +6,10 @@ ghost use Rattle.std.specs.Prelude.{◌≡◌, ◌+◌, ◌≤◌, ◌<◌, leng
 ghost use Rattle.wire.specs.Numbers.{elements};
 ghost use Rattle.record.specs.Record.{party_at, trade_of, market_of, request_of, settlement_of, facts_of};
 
+use codes::Coded;
 use facts::{
-    Contracts, Facts, Kind, Market, Mills, Party, Quote, Request, Seconds, Settlement, Trade,
+    Agreement, Contracts, Day, Facts, Kind, Market, Mills, Party, Quote, Request, Seconds,
+    Settlement, Side, Trade,
 };
 
 // The four bytes of a member code.
@@ -26,7 +28,7 @@ fn party_at(s: &[u8], at: usize, kind_at: usize) -> Party
     Party {
         code: code_at(s, at),
         limit: facts::price_of(wire::read_u32(s, at + 4)),
-        kind: codes::kind_of(s[kind_at]),
+        kind: Kind::from_byte(s[kind_at]),
     }
 }
 
@@ -67,11 +69,11 @@ pub fn request_of(s: &[u8]) -> Request
     ensures { result ≡ request_of s.now }
 {
     Request {
-        side: codes::side_of(s[44]),
-        opening: codes::flag_of(s[45]),
-        expiry: codes::flag_of(s[46]),
-        decided: codes::flag_of(s[47]),
-        day: codes::day_of(s[66]),
+        side: Side::from_byte(s[44]),
+        opening: bool::from_byte(s[45]),
+        expiry: bool::from_byte(s[46]),
+        decided: bool::from_byte(s[47]),
+        day: Day::from_byte(s[66]),
         filed: Seconds(wire::read_u32(s, 72)),
     }
 }
@@ -81,14 +83,14 @@ pub fn buyer_kind(s: &[u8]) -> Kind
     requires { 88 ≤ length s.now }
     ensures { result ≡ (party_at s.now 48 64).kind }
 {
-    codes::kind_of(s[64])
+    Kind::from_byte(s[64])
 }
 
 pub fn seller_kind(s: &[u8]) -> Kind
     requires { 88 ≤ length s.now }
     ensures { result ≡ (party_at s.now 56 65).kind }
 {
-    codes::kind_of(s[65])
+    Kind::from_byte(s[65])
 }
 
 // A party with its code, its limit and its kind.
@@ -112,7 +114,7 @@ pub fn settlement_of(s: &[u8]) -> Settlement
     ensures { result ≡ settlement_of s.now }
 {
     Settlement {
-        agreement: codes::agreement_of(s[67]),
+        agreement: Agreement::from_byte(s[67]),
         agreed: facts::price_of(wire::read_u32(s, 68)),
         made: Seconds(wire::read_u32(s, 76)),
         accepted: facts::moment_of(wire::read_u32(s, 80)),

@@ -8,6 +8,7 @@ ghost use Rattle.wire.specs.Laid.{laid};
 ghost use Rattle.forms.specs.Forms.{form_length};
 ghost use Rattle.record.specs.Record.{head_bytes, trade_bytes, market_bytes, flag_bytes, party_stored, list_bytes, tail_bytes, record_bytes};
 
+use codes::Coded;
 use facts::{Facts, Form, Market, Party, Request, Seconds, Settlement, Trade};
 
 fn put_head(out: &mut [u8], form: Form)
@@ -48,10 +49,10 @@ fn put_flags(out: &mut [u8], r: Request)
         out,
         44,
         [
-            codes::side_number(r.side),
-            codes::flag_number(r.opening),
-            codes::flag_number(r.expiry),
-            codes::flag_number(r.decided),
+            r.side.byte(),
+            r.opening.byte(),
+            r.expiry.byte(),
+            r.decided.byte(),
         ],
     );
 }
@@ -72,10 +73,10 @@ fn put_lists(out: &mut [u8], f: Facts)
         out,
         64,
         [
-            codes::kind_number(f.buyer.kind),
-            codes::kind_number(f.seller.kind),
-            codes::day_number(f.request.day),
-            codes::agreement_number(f.settlement.agreement),
+            f.buyer.kind.byte(),
+            f.seller.kind.byte(),
+            f.request.day.byte(),
+            f.settlement.agreement.byte(),
         ],
     );
 }

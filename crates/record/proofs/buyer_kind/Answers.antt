@@ -3,4 +3,4 @@ use Rattle.record.proofs.buyer_kind.Goals as goal
 
 pub returns : goal.returns
 unfolding party_at
-returns c = c.kind_of.ensures.0
+returns c = c.from_byte.ensures.0

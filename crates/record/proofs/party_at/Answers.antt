@@ -6,4 +6,4 @@ returns c = party_read _ _ _
     c.code_at.ensures
     c.read_u32.ensures
     c.price_of.ensures.0
-    c.kind_of.ensures.0
+    c.from_byte.ensures.0

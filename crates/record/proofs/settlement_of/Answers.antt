@@ -3,7 +3,7 @@ use Rattle.record.proofs.settlement_of.Goals as goal
 
 pub returns : goal.returns
 returns c = settlement_read _
-    c.agreement_of.ensures.0
+    c.from_byte.ensures.0
     c.read_u32.ensures
     c.price_of.ensures.0
     c.read_u32-2.ensures

@@ -1,7 +1,7 @@
 use borrow.Author.Tests.{eq-eqb, ne_eqb}
 use Rattle.codes.specs.Codes.{side_of, side_number}
 use Rattle.codes.proofs.Codes.{side_number_lem, spelled_if}
-use Rattle.codes.proofs.side_of.Goals as goal
+use Rattle.codes.proofs.SideCoded.from_byte.Goals as goal
 
 pub returns-in-1 : goal.returns-in-1
 unfolding side_of

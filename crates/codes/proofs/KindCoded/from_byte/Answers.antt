@@ -1,7 +1,7 @@
 use borrow.Author.Tests.{eq-eqb, ne_eqb}
 use Rattle.codes.specs.Codes.{kind_of, kind_number}
 use Rattle.codes.proofs.Codes.{kind_number_lem, spelled_if}
-use Rattle.codes.proofs.kind_of.Goals as goal
+use Rattle.codes.proofs.KindCoded.from_byte.Goals as goal
 
 pub returns-in-1 : goal.returns-in-1
 unfolding kind_of

@@ -1,7 +1,7 @@
 use borrow.Author.Tests.{eq-eqb, ne_eqb}
 use Rattle.codes.specs.Codes.{day_of, day_number}
 use Rattle.codes.proofs.Codes.{day_number_lem, spelled_if}
-use Rattle.codes.proofs.day_of.Goals as goal
+use Rattle.codes.proofs.DayCoded.from_byte.Goals as goal
 
 pub returns-in-0 : goal.returns-in-0
 unfolding day_of

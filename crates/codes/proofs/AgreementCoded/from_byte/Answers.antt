@@ -1,7 +1,7 @@
 use borrow.Author.Tests.{eq-eqb, ne_eqb}
 use Rattle.codes.specs.Codes.{agreement_of, agreement_number}
 use Rattle.codes.proofs.Codes.{agreement_number_lem, spelled_if}
-use Rattle.codes.proofs.agreement_of.Goals as goal
+use Rattle.codes.proofs.AgreementCoded.from_byte.Goals as goal
 
 pub returns-in-0 : goal.returns-in-0
 unfolding agreement_of
