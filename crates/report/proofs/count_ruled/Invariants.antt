@@ -5,4 +5,4 @@ use Rattle.sheet.specs.Sheet.{ruled_in}
 use Rattle.report.proofs.count_ruled.Given as goal
 
 abbrev pub invariant-loop-i : goal.invariant-loop-i
-invariant-loop-i l = At l.sheet l.i l.at × (l.ruled ≡ ruled_in l.sheet l.i)
+invariant-loop-i l = At l.sheet l._i l.at × (l.ruled ≡ ruled_in l.sheet l._i)
