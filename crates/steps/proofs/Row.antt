@@ -5,19 +5,11 @@ use mathlib.Core.Bool.{Bool, true, false}
 use mathlib.Core.List.{List, [], ◌∷◌}
 use native.Mathlib.Omega.{arith}
 use lib.Dec.{leb}
-use borrow.Author.Tests.{le-leb, lt-leb, leb-true, leb-false}
+use borrow.Author.Tests.{leb-true, leb-false}
 use Rattle.wire.specs.Tests.{pick}
 use Rattle.bands.specs.Table.{among, rows, last_row, band_of}
 use Rattle.steps.specs.Words.{Mills, Band}
 use Rattle.steps.specs.Found.{floor_among, floor_of}
-
--- where TP is at most a row's top, that row's floor is the one picked; where TP is above, it is that of the rows after it
-module _ (tp top : ℕ) (floor rest : Mills) where
-  pub serves : tp ≤ top → floor ≡ pick (leb tp top) floor rest
-  serves h = rw (le-leb tp top h)
-
-  pub passed : (found : Mills) → top < tp → found ≡ rest → found ≡ pick (leb tp top) floor rest
-  passed found h e = rw (lt-leb tp top h) e
 
 -- a row's pick, by its test: what holds of the row where TP is at most its top, and of the pick among the rows after it where TP is above
 by_row : {A : Type 0} (P : A → Type 0) (tp top : ℕ) (row rest : A) → (tp ≤ top → P row) → (top < tp → P rest) → P (pick (leb tp top) row rest)

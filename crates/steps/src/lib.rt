@@ -3,14 +3,11 @@
 // Refuses nothing: facts that were not accepted have steps too.
 #![tactic(auto)]
 
-ghost use Rattle.std.specs.Prelude.{◌≡◌, ◌-◌, min};
-ghost use Rattle.wire.specs.Tests.{pick};
-ghost use Rattle.facts.specs.Numbers.{mills};
+ghost use Rattle.std.specs.Prelude.{◌≡◌};
 ghost use Rattle.parties.specs.Parties.{by_side};
-ghost use Rattle.bands.specs.Amounts.{largest};
 ghost use Rattle.steps.specs.Tried.{clock_of, obvious_why, opening_why, catastrophic_why, tried_from, tried_of, open_of};
-ghost use Rattle.steps.specs.Found.{gap_of, spread_from, looked_of, apart, floor_of, error_of, limit_of, obvious_step, opening_step, catastrophic_step, act_step_of, is_made, is_on_price, ignored_why};
-ghost use Rattle.steps.specs.Steps.{end_of, settled_of, after_of, judged_of, reached_on, reached_by, reached_if, steps_of};
+ghost use Rattle.steps.specs.Found.{gap_of, spread_from, looked_of, apart, floor_of, error_of, limit_of, obvious_step, opening_step, catastrophic_step, act_step_of, ignored_why};
+ghost use Rattle.steps.specs.Steps.{end_of, settled_of, judged_of, reached_on, reached_if, steps_of};
 
 use agreement::Heeded;
 use bands::Band;
@@ -191,74 +188,75 @@ pub struct Steps {
 
 // ---- why a way was shut: the number of the first test that failed, 0 where it is open
 
-fn unless(ok: bool, later: u8, number: u8) -> u8
-    ensures { result ≡ pick ok later number }
-{
-    if ok {
-        return later;
-    }
-    number
-}
-
+#[tactic(auto, unfolding(crate::specs::Tried::obvious_why))]
 fn obvious_why(day: Day, executed: Seconds, filed: Seconds, kind: Kind) -> u8
     ensures { result ≡ obvious_why day executed filed kind }
 {
-    let dated = way::is_trade_date(day);
-    let timely = way::within(way::obvious_time(kind), executed, filed);
-    unless(dated, unless(timely, 0, 2), 1)
+    match day {
+        Day::TradeDate if way::within(way::obvious_time(kind), executed, filed) => 0,
+        Day::TradeDate => 2,
+        _ => 1,
+    }
 }
 
+#[tactic(auto, unfolding(crate::specs::Tried::opening_why))]
 fn opening_why(day: Day, opening: bool, executed: Seconds, filed: Seconds, kind: Kind) -> u8
     ensures { result ≡ opening_why day opening executed filed kind }
 {
-    let dated = way::is_trade_date(day);
-    let customer = parties::is_customer(kind);
-    let early = way::within(Seconds(1200), executed, filed);
-    let timely = way::no_later(filed, Seconds(59400));
-    let last = unless(!early, unless(timely, 0, 6), 5);
-    unless(dated, unless(opening, unless(customer, last, 4), 3), 1)
+    if !way::is_trade_date(day) {
+        1
+    } else if !opening {
+        3
+    } else if !parties::is_customer(kind) {
+        4
+    } else if way::within(Seconds(1200), executed, filed) {
+        5
+    } else if !way::no_later(filed, Seconds(59400)) {
+        6
+    } else {
+        0
+    }
 }
 
+#[tactic(auto, unfolding(crate::specs::Tried::catastrophic_why))]
 fn catastrophic_why(day: Day, expiry: bool, filed: Seconds) -> u8
     ensures { result ≡ catastrophic_why day expiry filed }
 {
-    let dated = way::is_trade_date(day);
-    let next = way::is_next_day(day);
-    let by_five = way::no_later(filed, Seconds(61200));
-    let by_half = way::no_later(filed, Seconds(30600));
-    let under = unless(dated, unless(by_five, 0, 7), 1);
-    let free = unless(dated | next, unless(dated | by_half, 0, 9), 8);
-    unless(expiry, under, free)
+    match (expiry, day) {
+        (true, Day::TradeDate) if way::no_later(filed, Seconds(61200)) => 0,
+        (true, Day::TradeDate) => 7,
+        (true, _) => 1,
+        (false, Day::TradeDate) => 0,
+        (false, Day::NextDay) if way::no_later(filed, Seconds(30600)) => 0,
+        (false, Day::NextDay) => 9,
+        (false, Day::Later) => 8,
+    }
 }
 
+#[tactic(auto, unfolding(crate::specs::Tried::tried_from))]
 fn tried_from(obvious: u8, opening: u8, catastrophic: u8) -> Tried
     ensures { result ≡ tried_from obvious opening catastrophic }
 {
-    if obvious == 0 {
-        return Tried::First;
+    match (obvious, opening, catastrophic) {
+        (0, _, _) => Tried::First,
+        (_, 0, _) => Tried::Second(obvious),
+        (_, _, 0) => Tried::Third(Shut { obvious, opening }),
+        _ => Tried::NoWay(AllShut {
+            obvious,
+            opening,
+            catastrophic,
+        }),
     }
-    if opening == 0 {
-        return Tried::Second(obvious);
-    }
-    if catastrophic == 0 {
-        return Tried::Third(Shut { obvious, opening });
-    }
-    Tried::NoWay(AllShut {
-        obvious,
-        opening,
-        catastrophic,
-    })
 }
 
+#[tactic(auto, unfolding(crate::specs::Tried::tried_of))]
 fn find_tried(executed: Seconds, request: Request, kind: Kind) -> Tried
     ensures { result ≡ tried_of executed request kind }
 {
-    let day = request.day;
-    let filed = request.filed;
     tried_from(
-        obvious_why(day, executed, filed, kind),
-        opening_why(day, request.opening, executed, filed, kind),
-        catastrophic_why(day, request.expiry, filed),
+        obvious_why(request.day, executed, request.filed, kind),
+        opening_why(request.day, request.opening, executed, request.filed, kind),
+        catastrophic_why(request.day, request.expiry, request.filed),
     )
 }
 
@@ -273,232 +271,160 @@ fn open_of(tried: Tried) -> Option<Way>
     }
 }
 
-fn since(executed: Seconds, filed: Seconds) -> Seconds
-    ensures { result.0 ≡ filed.0 - executed.0 }
-{
-    if filed.0 < executed.0 {
-        return Seconds(0);
-    }
-    Seconds(filed.0 - executed.0)
-}
-
+#[tactic(auto, unfolding(crate::specs::Tried::clock_of))]
 fn find_clock(executed: Seconds, request: Request, kind: Kind) -> Clock
     ensures { result ≡ clock_of executed request kind }
 {
-    let side = request.side;
-    let opening = request.opening;
-    let expiry = request.expiry;
-    let decided = request.decided;
-    let day = request.day;
-    let filed = request.filed;
-    let passed = since(executed, filed);
-    let allowed = way::obvious_time(kind);
     Clock {
-        side,
+        side: request.side,
         kind,
-        opening,
-        expiry,
-        decided,
-        day,
+        opening: request.opening,
+        expiry: request.expiry,
+        decided: request.decided,
+        day: request.day,
         executed,
-        filed,
-        since: passed,
-        allowed,
+        filed: request.filed,
+        since: Seconds(request.filed.0.saturating_sub(executed.0)),
+        allowed: way::obvious_time(kind),
+    }
+}
+
+// The first of two where the side is buy, the second where it is sell.
+fn by_side<T: Copy>(side: Side, a: T, b: T) -> T
+    ensures { result ≡ by_side side a b }
+{
+    match side {
+        Side::Buy => a,
+        Side::Sell => b,
     }
 }
 
 // ---- the quotes
 
-// A sum of mills; the largest number where four bytes don't hold it.
-fn capped(sum: u64) -> Mills
-    ensures { result ≡ mills (min sum largest) }
-{
-    if sum < 4294967295 {
-        return Mills(sum as u32);
-    }
-    Mills(4294967295)
-}
-
+// The sum is in 64 bits, where it can't wrap; `reach` is the largest number where four bytes don't hold it.
+#[tactic(auto, unfolding(crate::specs::Found::gap_of, width::specs::Width::apart))]
 fn gap_of(differential: Mills, bid: Mills, offer: Mills) -> Gap
     ensures { result ≡ gap_of differential bid offer }
 {
-    let sum = (bid.0 as u64) + 2 * (differential.0 as u64);
-    let reach = capped(sum);
-    let wide = sum <= (offer.0 as u64);
+    let sum = u64::from(bid.0) + 2 * u64::from(differential.0);
     Gap {
         differential,
         bid,
         offer,
-        reach,
-        wide,
+        reach: Mills(sum.min(u64::from(u32::MAX)) as u32),
+        wide: sum <= u64::from(offer.0),
     }
 }
 
 fn find_spread(differential: Option<Mills>, bid: Option<Mills>, offer: Option<Mills>) -> Option<Gap>
     ensures { result ≡ spread_from differential bid offer }
 {
-    let Some(d) = differential else {
-        return None;
-    };
-    let Some(b) = bid else {
-        return None;
-    };
-    let Some(o) = offer else {
-        return None;
-    };
-    Some(gap_of(d, b, o))
+    Some(gap_of(differential?, bid?, offer?))
 }
 
-fn price_on(side: Side, a: Option<Mills>, b: Option<Mills>) -> Option<Mills>
-    ensures { result ≡ by_side side a b }
-{
-    match side {
-        Side::Buy => a,
-        Side::Sell => b,
-    }
-}
-
+#[tactic(auto, unfolding(crate::specs::Found::looked_of))]
 fn look(form: Form, side: Side, market: Market) -> Looked
     ensures { result ≡ looked_of form side market }
 {
-    let bid = market.bid;
-    let bid_price = bid.price;
-    let offer = market.offer;
-    let offer_price = offer.price;
-    let official = market.official;
-    let quote = price_on(side, offer_price, bid_price);
-    let spread = find_spread(forms::differential_of(form), bid_price, offer_price);
     Looked {
-        quote,
-        official,
-        spread,
+        quote: by_side(side, market.offer.price, market.bid.price),
+        official: market.official,
+        spread: find_spread(
+            forms::differential_of(form),
+            market.bid.price,
+            market.offer.price,
+        ),
     }
 }
 
 // ---- the error
 
 // The lowest TP that the row for TP serves: one mill above the row before it.
+#[tactic(auto, unfolding(crate::specs::Found::floor_of))]
 fn floor_of(tp: Mills) -> Mills
     ensures { result ≡ floor_of tp }
 {
-    if tp.0 <= 1999 {
-        return Mills(0);
+    match tp.0 {
+        0..=1999 => Mills(0),
+        2000..=5000 => Mills(2000),
+        5001..=10000 => Mills(5001),
+        10001..=20000 => Mills(10001),
+        20001..=50000 => Mills(20001),
+        50001..=100000 => Mills(50001),
+        _ => Mills(100001),
     }
-    if tp.0 <= 5000 {
-        return Mills(2000);
-    }
-    if tp.0 <= 10000 {
-        return Mills(5001);
-    }
-    if tp.0 <= 20000 {
-        return Mills(10001);
-    }
-    if tp.0 <= 50000 {
-        return Mills(20001);
-    }
-    if tp.0 <= 100000 {
-        return Mills(50001);
-    }
-    Mills(100001)
 }
 
+#[tactic(auto, unfolding(crate::specs::Found::apart))]
 fn apart(a: Mills, b: Mills) -> Mills
     ensures { result ≡ apart a b }
 {
-    if a.0 < b.0 {
-        return Mills(b.0 - a.0);
-    }
-    Mills(a.0 - b.0)
+    Mills(a.0.abs_diff(b.0))
 }
 
-fn mills_on(side: Side, a: Mills, b: Mills) -> Mills
-    ensures { result ≡ by_side side a b }
-{
-    match side {
-        Side::Buy => a,
-        Side::Sell => b,
-    }
-}
-
+#[tactic(auto, unfolding(crate::specs::Found::error_of))]
 fn find_off(side: Side, execution: Mills, tp: Mills, way: Way) -> Off
     ensures { result ≡ error_of side execution tp way }
 {
     let row = bands::band_of(tp);
-    let floor = floor_of(tp);
     let minimum = act::minimum_of(way, row);
-    let low = mills_on(side, tp, execution);
-    let high = mills_on(side, execution, tp);
+    let low = by_side(side, tp, execution);
+    let high = by_side(side, execution, tp);
     let reach = bands::moved(Side::Buy, low, minimum);
-    let wrong = bands::in_error(side, execution, tp, minimum);
-    let by = apart(reach, high);
     Off {
         row,
-        floor,
+        floor: floor_of(tp),
         minimum,
         low,
         high,
         reach,
-        wrong,
-        by,
+        wrong: bands::in_error(side, execution, tp, minimum),
+        by: apart(reach, high),
     }
 }
 
 // ---- the act
 
+#[tactic(auto, unfolding(crate::specs::Found::limit_of))]
 fn limit_of(side: Side, party: Party, counts: bool, price: Mills) -> Limit
     ensures { result ≡ limit_of side party counts price }
 {
-    let kind = party.kind;
-    let limit = party.limit;
-    let stopped = counts & facts::violates(side, limit, price);
     Limit {
         side,
-        kind,
-        limit,
+        kind: party.kind,
+        limit: party.limit,
         price,
         counts,
-        stopped,
+        stopped: counts && facts::violates(side, party.limit, price),
     }
 }
 
-fn party_on(side: Side, buyer: Party, seller: Party) -> Party
-    ensures { result ≡ by_side side buyer seller }
-{
-    match side {
-        Side::Buy => buyer,
-        Side::Sell => seller,
-    }
-}
-
+#[tactic(auto, unfolding(crate::specs::Found::obvious_step))]
 fn obvious_step(side: Side, buyer: Party, seller: Party, tp: Mills) -> Near
     ensures { result ≡ obvious_step side buyer seller tp }
 {
-    let buyer_kind = buyer.kind;
-    let seller_kind = seller.kind;
-    let customer = parties::any_customer(buyer_kind, seller_kind);
     let by = bands::obvious_adjustment(tp);
-    let price = bands::moved(side, tp, by);
     Near {
-        buyer: buyer_kind,
-        seller: seller_kind,
-        customer,
+        buyer: buyer.kind,
+        seller: seller.kind,
+        customer: parties::any_customer(buyer.kind, seller.kind),
         by,
-        price,
+        price: bands::moved(side, tp, by),
     }
 }
 
+#[tactic(auto, unfolding(crate::specs::Found::opening_step))]
 fn opening_step(side: Side, buyer: Party, seller: Party, tp: Mills) -> Even
     ensures { result ≡ opening_step side buyer seller tp }
 {
-    let buyer_kind = buyer.kind;
-    let seller_kind = seller.kind;
-    let maker = parties::is_maker(parties::other_kind(side, buyer_kind, seller_kind));
-    let on = act::opening_tested(side, buyer_kind, seller_kind);
-    let party = party_on(on, buyer, seller);
-    let tested = limit_of(on, party, true, tp);
-    Even { maker, tested }
+    let on = act::opening_tested(side, buyer.kind, seller.kind);
+    Even {
+        maker: parties::is_maker(parties::other_kind(side, buyer.kind, seller.kind)),
+        tested: limit_of(on, by_side(on, buyer, seller), true, tp),
+    }
 }
 
+#[tactic(auto, unfolding(crate::specs::Found::catastrophic_step))]
 fn catastrophic_step(
     side: Side,
     buyer: Party,
@@ -509,20 +435,14 @@ fn catastrophic_step(
 ) -> Far
     ensures { result ≡ catastrophic_step side buyer seller accepted tp band }
 {
-    let by = band.adjustment;
-    let buyer_kind = buyer.kind;
-    let seller_kind = seller.kind;
-    let price = bands::moved(side, tp, by);
-    let high = limit_of(Side::Buy, buyer, parties::is_customer(buyer_kind), price);
-    let low = limit_of(Side::Sell, seller, parties::is_customer(seller_kind), price);
-    let timely = agreement::accepted_in_time(accepted);
+    let price = bands::moved(side, tp, band.adjustment);
     Far {
-        by,
+        by: band.adjustment,
         price,
-        buyer: high,
-        seller: low,
+        buyer: limit_of(Side::Buy, buyer, parties::is_customer(buyer.kind), price),
+        seller: limit_of(Side::Sell, seller, parties::is_customer(seller.kind), price),
         accepted,
-        timely,
+        timely: agreement::accepted_in_time(accepted),
     }
 }
 
@@ -548,168 +468,106 @@ fn find_acting(
 
 // ---- agreement
 
-fn is_made(a: Agreement) -> bool
-    ensures { result ≡ is_made a }
-{
-    match a {
-        Agreement::NotMade => false,
-        Agreement::OnPrice => true,
-        Agreement::ToNullify => true,
-    }
-}
-
-fn is_on_price(a: Agreement) -> bool
-    ensures { result ≡ is_on_price a }
-{
-    match a {
-        Agreement::NotMade => false,
-        Agreement::OnPrice => true,
-        Agreement::ToNullify => false,
-    }
-}
-
+#[tactic(auto, unfolding(crate::specs::Found::ignored_why))]
 fn ignored_why(s: Settlement, way: Way, customer: bool) -> u8
     ensures { result ≡ ignored_why s way customer }
 {
-    let a = s.agreement;
-    let made = s.made;
-    let some = is_made(a);
-    let timely = agreement::in_time(made, customer);
-    let fit = is_on_price(a) | agreement::may_nullify(way, customer);
-    unless(some, unless(timely, unless(fit, 0, 3), 2), 1)
+    if matches!(s.agreement, Agreement::NotMade) {
+        1
+    } else if !agreement::in_time(s.made, customer) {
+        2
+    } else if matches!(s.agreement, Agreement::ToNullify)
+        && !agreement::may_nullify(way, customer)
+    {
+        3
+    } else {
+        0
+    }
 }
 
 fn find_end(f: Facts, way: Way, source: Source, heeded: Heeded) -> End
     ensures { result ≡ end_of f way source heeded }
 {
-    let request = f.request;
-    let side = request.side;
-    let settlement = f.settlement;
-    let accepted = settlement.accepted;
-    let tp = source.price;
     match heeded {
-        Heeded::Ignored => {
-            let band = bands::band_of(tp);
-            End::Acted(find_acting(way, side, f.buyer, f.seller, accepted, tp, band))
-        }
+        Heeded::Ignored => End::Acted(find_acting(
+            way,
+            f.request.side,
+            f.buyer,
+            f.seller,
+            f.settlement.accepted,
+            source.price,
+            bands::band_of(source.price),
+        )),
         Heeded::Repriced(price) => End::PriceCounts(price),
         Heeded::Undone => End::NullifyCounts,
     }
 }
 
+#[tactic(auto, unfolding(crate::specs::Steps::settled_of))]
 fn find_settled(f: Facts, way: Way, source: Source) -> Settled
     ensures { result ≡ settled_of f way source }
 {
-    let buyer = f.buyer;
-    let buyer_kind = buyer.kind;
-    let seller = f.seller;
-    let seller_kind = seller.kind;
     let terms = f.settlement;
-    let customer = parties::any_customer(buyer_kind, seller_kind);
-    let allowed = agreement::agreement_time(customer);
-    let ignored = ignored_why(terms, way, customer);
-    let end = find_end(f, way, source, agreement::heed(terms, way, customer));
+    let customer = parties::any_customer(f.buyer.kind, f.seller.kind);
     Settled {
         terms,
         customer,
-        allowed,
-        ignored,
-        end,
+        allowed: agreement::agreement_time(customer),
+        ignored: ignored_why(terms, way, customer),
+        end: find_end(f, way, source, agreement::heed(terms, way, customer)),
     }
 }
 
 // ---- the whole
 
-// What came after the error: nothing where the trade is not in error.
-fn find_after(f: Facts, way: Way, source: Source, wrong: bool) -> Option<Settled>
-    ensures { result ≡ after_of f way source wrong }
-{
-    if wrong {
-        return Some(find_settled(f, way, source));
-    }
-    None
-}
-
+// Nothing came after the error where the trade is not in error.
+#[tactic(auto, unfolding(crate::specs::Steps::judged_of))]
 fn judge(f: Facts, way: Way, source: Source) -> Judged
     ensures { result ≡ judged_of f way source }
 {
-    let trade = f.trade;
-    let execution = trade.price;
-    let request = f.request;
-    let side = request.side;
-    let form = f.form;
-    let market = f.market;
-    let tp = source.price;
-    let looked = look(form, side, market);
-    let off = find_off(side, execution, tp, way);
-    let wrong = off.wrong;
-    let after = find_after(f, way, source, wrong);
+    let off = find_off(f.request.side, f.trade.price, source.price, way);
     Judged {
         way,
-        looked,
+        looked: look(f.form, f.request.side, f.market),
         source,
         off,
-        after,
+        after: off.wrong.then(|| find_settled(f, way, source)),
     }
 }
 
+#[tactic(auto, unfolding(crate::specs::Steps::reached_on))]
 fn reach_on(f: Facts, way: Way) -> Reached
     ensures { result ≡ reached_on f way }
 {
-    let request = f.request;
-    let side = request.side;
-    let form = f.form;
-    let market = f.market;
-    match theory::find_theory(form, side, market) {
+    match theory::find_theory(f.form, f.request.side, f.market) {
         Some(source) => Reached::Priced(judge(f, way, source)),
-        None => Reached::Unpriced(look(form, side, market)),
+        None => Reached::Unpriced(look(f.form, f.request.side, f.market)),
     }
 }
 
-fn reach_by(f: Facts, way: Way) -> Reached
-    ensures { result ≡ reached_by f way }
-{
-    match way {
-        Way::Obvious => reach_on(f, way),
-        Way::Opening => reach_on(f, way),
-        Way::Catastrophic => {
-            if f.request.decided {
-                return Reached::Decided;
-            }
-            reach_on(f, way)
-        }
-    }
-}
-
+// The panel's decision is asked for on the catastrophic way alone.
+#[tactic(auto, unfolding(crate::specs::Steps::reached_by))]
 fn reach(f: Facts, found: Option<Way>) -> Reached
     ensures { result ≡ reached_if f found }
 {
     match found {
-        Some(way) => reach_by(f, way),
         None => Reached::Late,
+        Some(Way::Catastrophic) if f.request.decided => Reached::Decided,
+        Some(way) => reach_on(f, way),
     }
 }
 
 // What each step of the ruling on these facts found.
+#[tactic(auto, unfolding(crate::specs::Steps::steps_of))]
 pub fn find_steps(f: Facts) -> Steps
     ensures { result ≡ steps_of f }
 {
-    let trade = f.trade;
-    let executed = trade.executed;
-    let request = f.request;
-    let side = request.side;
-    let buyer = f.buyer;
-    let buyer_kind = buyer.kind;
-    let seller = f.seller;
-    let seller_kind = seller.kind;
-    let kind = parties::kind_in_error(side, buyer_kind, seller_kind);
-    let clock = find_clock(executed, request, kind);
-    let tried = find_tried(executed, request, kind);
-    let reached = reach(f, open_of(tried));
+    let kind = parties::kind_in_error(f.request.side, f.buyer.kind, f.seller.kind);
+    let tried = find_tried(f.trade.executed, f.request, kind);
     Steps {
-        trade,
-        clock,
+        trade: f.trade,
+        clock: find_clock(f.trade.executed, f.request, kind),
         tried,
-        reached,
+        reached: reach(f, open_of(tried)),
     }
 }
