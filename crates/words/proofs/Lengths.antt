@@ -35,19 +35,33 @@ four_digits : (n : ℕ) → n < 10000 → length (decimal_of n) ≤ 4
 unfolding decimal_of
 four_digits n h = digits_most 3 9 n h
 
--- ---- one group more
-group_more : (k n m : ℕ) → length (grouped_by k (n / 1000)) ≤ m → length (grouped_by (suc k) n) ≤ m + 4
+seven_digits : (n : ℕ) → n < 10000000 → length (decimal_of n) ≤ 7
+unfolding decimal_of
+seven_digits n h = digits_most 6 9 n h
+
+ten_digits : (n : ℕ) → n < 10000000000 → length (decimal_of n) ≤ 10
+unfolding decimal_of
+ten_digits n h = digits_most 9 9 n h
+
+-- ---- in any number of groups
+grouped : (k n m : ℕ) → length (decimal_of n) ≤ m + 4 → ((j : ℕ) → length (grouped_by j (n / 1000)) ≤ m)
+    → length (grouped_by k n) ≤ m + 4
 unfolding grouped_by
-group_more k n m h =
+grouped zero n m h r = h
+grouped (suc k) n m h r =
     let a = length-append (grouped_by k (n / 1000)) (group n) in
-    either (λ (w : List ℕ). length w ≤ m + 4) (ltb n 1000) _ _ (λ t. omega (arith, three_digits n (ltb-true n 1000 t))) (λ t. omega arith)
+    either (λ (w : List ℕ). length w ≤ m + 4) (ltb n 1000) _ _ (λ t. h) (λ t. omega (arith, r k))
 
-none_most : (n m : ℕ) → length (decimal_of n) ≤ m → length (grouped_by 0 n) ≤ m
+one_most : (k n : ℕ) → n < 10 → length (grouped_by k n) ≤ 1
 unfolding grouped_by
-none_most n m h = h
+one_most zero n h = one_digit n h
+one_most (suc k) n h = either (λ (w : List ℕ). length w ≤ 1) (ltb n 1000) _ _ (λ t. one_digit n h) (λ t. omega (arith, ltb-false n 1000 t))
 
-pub one_most : (n : ℕ) → n ≤ 4294967 → length (grouped_by 1 n) ≤ 8
-one_most n h = group_more 0 n 4 (none_most _ 4 (four_digits _ (omega arith)))
+five_most : (k n : ℕ) → n < 10000 → length (grouped_by k n) ≤ 5
+five_most k n h = grouped k n 1 (omega (arith, four_digits n h)) (λ j. one_most j (n / 1000) (omega arith))
 
-pub two_most : (n : ℕ) → n ≤ 4294967 → length (grouped_by 2 n) ≤ 9
-two_most n h = group_more 1 n 5 (group_more 0 (n / 1000) 1 (none_most _ 1 (one_digit _ (omega arith))))
+pub grouped_most : (k n : ℕ) → n ≤ 4294967 → length (grouped_by k n) ≤ 9
+grouped_most k n h = grouped k n 5 (omega (arith, seven_digits n (omega arith))) (λ j. five_most j (n / 1000) (omega arith))
+
+pub count_most : (n : ℕ) → n < 4294967296 → length (grouped_by 3 n) ≤ 14
+count_most n h = grouped 3 n 10 (omega (arith, ten_digits n (omega arith))) (λ j. omega (arith, grouped_most j (n / 1000) (omega arith)))

@@ -7,7 +7,7 @@ ghost use Rattle.std.specs.Prelude.{◌≡◌, ◌+◌, ◌≤◌, length};
 ghost use Rattle.text.specs.Text.{laid_at};
 ghost use Rattle.words.specs.Phrases.{phrases, start_of, all_phrases, phrase_of, phrase_count};
 ghost use Rattle.words.specs.Grouped.{group, grouped_by, grouped_text};
-ghost use Rattle.words.specs.Values.{kind_words, day_words, flag_words, agreement_words, seconds_text, lapse_text, value_text, byte_text, bytes_text, place_text};
+ghost use Rattle.words.specs.Values.{kind_words, day_words, flag_words, agreement_words, lapse_text, value_text, byte_text, bytes_text, place_text};
 ghost use Rattle.words.specs.Pieces.{piece_text, row_text, bytes_at, say, tell, found};
 ghost use Rattle.words.specs.Rows.{index_text};
 
@@ -376,18 +376,18 @@ fn start_of(n: usize) -> usize
 }
 
 // The n-th phrase; nothing where there is none.
+
 fn add_phrase(out: &mut [u8], at: usize, n: u8) -> usize
     requires { at + 56 ≤ length out.old }
     ensures { (result ≡ at + length (phrase_of n)) × (out.new ≡ laid_at at (phrase_of n) out.old) × (result ≤ at + 56) }
 {
-    let k = n as usize;
-    if k < PHRASE_COUNT {
-        let all = all_phrases();
-        let a = start_of(k);
-        let e = start_of(k + 1);
-        return text::add_word(out, at, &all[a..e]);
+    let k = usize::from(n);
+    if PHRASE_COUNT <= k {
+        return at;
     }
-    at
+    let start = start_of(k);
+    let end = start_of(k + 1);
+    text::add_word(out, at, &all_phrases()[start..end])
 }
 
 // ---- a count with its commas
@@ -403,105 +403,76 @@ fn group_of(n: u32) -> [u8; 4]
     ]
 }
 
-fn add_one_group(out: &mut [u8], at: usize, n: u32) -> usize
+// In at most so many groups behind the first digits.
+fn add_grouped(out: &mut [u8], at: usize, groups: u32, n: u32) -> usize
     requires { at + 14 ≤ length out.old }
-    ensures { (result ≡ at + length (grouped_by 1 n)) × (out.new ≡ laid_at at (grouped_by 1 n) out.old) }
+    ensures { (result ≡ at + length (grouped_by groups n)) × (out.new ≡ laid_at at (grouped_by groups n) out.old) }
 {
-    if n < 1000 {
+    if groups == 0 || n < 1000 {
         return text::add_decimal(out, at, n);
     }
-    let next = text::add_decimal(out, at, n / 1000);
-    let last = group_of(n);
-    text::add_word(out, next, &last)
+    let next = add_grouped(out, at, groups - 1, n / 1000);
+    text::add_word(out, next, &group_of(n))
 }
 
-fn add_two_groups(out: &mut [u8], at: usize, n: u32) -> usize
-    requires { at + 14 ≤ length out.old }
-    ensures { (result ≡ at + length (grouped_by 2 n)) × (out.new ≡ laid_at at (grouped_by 2 n) out.old) }
-{
-    if n < 1000 {
-        return text::add_decimal(out, at, n);
-    }
-    let next = add_one_group(out, at, n / 1000);
-    let last = group_of(n);
-    text::add_word(out, next, &last)
-}
-
+// A number of four bytes has at most three.
 fn add_count(out: &mut [u8], at: usize, n: u32) -> usize
     requires { at + 14 ≤ length out.old }
     ensures { (result ≡ at + length (grouped_text n)) × (out.new ≡ laid_at at (grouped_text n) out.old) × (result ≤ at + 14) }
 {
-    if n < 1000 {
-        return text::add_decimal(out, at, n);
-    }
-    let next = add_two_groups(out, at, n / 1000);
-    let last = group_of(n);
-    text::add_word(out, next, &last)
+    add_grouped(out, at, 3, n)
 }
 
 // ---- a value
 
-fn add_kind(out: &mut [u8], at: usize, kind: Kind) -> usize
-    requires { at + 22 ≤ length out.old }
-    ensures { (result ≡ at + length (kind_words kind)) × (out.new ≡ laid_at at (kind_words kind) out.old) × (result ≤ at + 22) }
+fn kind_words(kind: Kind) -> &'static [u8]
+    ensures { (result.now ≡ kind_words kind) × (length result.now ≤ 22) }
 {
     match kind {
-        Kind::Customer => text::add_word(out, at, b"a Customer"),
-        Kind::MarketMaker => text::add_word(out, at, b"a Market Maker"),
-        Kind::Other => text::add_word(out, at, b"another kind of party"),
+        Kind::Customer => b"a Customer",
+        Kind::MarketMaker => b"a Market Maker",
+        Kind::Other => b"another kind of party",
     }
 }
 
-fn add_day(out: &mut [u8], at: usize, day: Day) -> usize
-    requires { at + 22 ≤ length out.old }
-    ensures { (result ≡ at + length (day_words day)) × (out.new ≡ laid_at at (day_words day) out.old) × (result ≤ at + 22) }
+fn day_words(day: Day) -> &'static [u8]
+    ensures { (result.now ≡ day_words day) × (length result.now ≤ 22) }
 {
     match day {
-        Day::TradeDate => text::add_word(out, at, b"the trade date"),
-        Day::NextDay => text::add_word(out, at, b"the next day"),
-        Day::Later => text::add_word(out, at, b"a later day"),
+        Day::TradeDate => b"the trade date",
+        Day::NextDay => b"the next day",
+        Day::Later => b"a later day",
     }
 }
 
-fn add_flag(out: &mut [u8], at: usize, flag: bool) -> usize
-    requires { at + 22 ≤ length out.old }
-    ensures { (result ≡ at + length (flag_words flag)) × (out.new ≡ laid_at at (flag_words flag) out.old) × (result ≤ at + 22) }
+fn flag_words(flag: bool) -> &'static [u8]
+    ensures { (result.now ≡ flag_words flag) × (length result.now ≤ 22) }
 {
-    if flag {
-        return text::add_word(out, at, b"yes");
-    }
-    text::add_word(out, at, b"no")
+    if flag { b"yes" } else { b"no" }
 }
 
-fn add_agreement(out: &mut [u8], at: usize, agreement: Agreement) -> usize
-    requires { at + 22 ≤ length out.old }
-    ensures { (result ≡ at + length (agreement_words agreement)) × (out.new ≡ laid_at at (agreement_words agreement) out.old) × (result ≤ at + 22) }
+fn agreement_words(agreement: Agreement) -> &'static [u8]
+    ensures { (result.now ≡ agreement_words agreement) × (length result.now ≤ 22) }
 {
     match agreement {
-        Agreement::NotMade => text::add_word(out, at, b"none"),
-        Agreement::OnPrice => text::add_word(out, at, b"on a price"),
-        Agreement::ToNullify => text::add_word(out, at, b"to nullify"),
+        Agreement::NotMade => b"none",
+        Agreement::OnPrice => b"on a price",
+        Agreement::ToNullify => b"to nullify",
     }
-}
-
-fn add_seconds(out: &mut [u8], at: usize, n: u32) -> usize
-    requires { at + 16 ≤ length out.old }
-    ensures { (result ≡ at + length (seconds_text n)) × (out.new ≡ laid_at at (seconds_text n) out.old) × (result ≤ at + 16) }
-{
-    let next = add_count(out, at, n);
-    text::add_word(out, next, b" s")
 }
 
 fn add_lapse(out: &mut [u8], at: usize, lapse: Option<Seconds>) -> usize
     requires { at + 16 ≤ length out.old }
     ensures { (result ≡ at + length (lapse_text lapse)) × (out.new ≡ laid_at at (lapse_text lapse) out.old) × (result ≤ at + 16) }
 {
-    match lapse {
-        Some(t) => add_seconds(out, at, t.0),
-        None => text::add_word(out, at, b"none"),
-    }
+    let Some(t) = lapse else {
+        return text::add_word(out, at, b"none");
+    };
+    let next = add_count(out, at, t.0);
+    text::add_word(out, next, b" s")
 }
 
+#[tactic(auto, using(crate::proofs::Rows::nothing_laid), unfolding(crate::specs::Values::value_text))]
 fn add_value(out: &mut [u8], at: usize, v: Value) -> usize
     requires { at + 22 ≤ length out.old }
     ensures { (result ≡ at + length (value_text v)) × (out.new ≡ laid_at at (value_text v) out.old) × (result ≤ at + 22) }
@@ -514,10 +485,10 @@ fn add_value(out: &mut [u8], at: usize, v: Value) -> usize
         Value::Time(t) => spelling::add_time(out, at, t.0),
         Value::Lapse(m) => add_lapse(out, at, m),
         Value::Letter(b) => text::add_byte(out, at, b),
-        Value::Who(k) => add_kind(out, at, k),
-        Value::On(d) => add_day(out, at, d),
-        Value::Flag(b) => add_flag(out, at, b),
-        Value::Terms(a) => add_agreement(out, at, a),
+        Value::Who(k) => text::add_word(out, at, kind_words(k)),
+        Value::On(d) => text::add_word(out, at, day_words(d)),
+        Value::Flag(b) => text::add_word(out, at, flag_words(b)),
+        Value::Terms(a) => text::add_word(out, at, agreement_words(a)),
     }
 }
 
@@ -528,7 +499,7 @@ fn add_one_byte(out: &mut [u8], at: usize, first: u8) -> usize
     ensures { (result ≡ at + length (byte_text first)) × (out.new ≡ laid_at at (byte_text first) out.old) × (result ≤ at + 26) }
 {
     let number = text::add_word(out, at, b" (byte ");
-    let end = text::add_decimal(out, number, first as u32);
+    let end = text::add_decimal(out, number, u32::from(first));
     text::add_word(out, end, b")")
 }
 
@@ -538,25 +509,22 @@ fn add_bytes(out: &mut [u8], at: usize, first: u8, width: u8) -> usize
     ensures { (result ≡ at + length (bytes_text first width)) × (out.new ≡ laid_at at (bytes_text first width) out.old) × (result ≤ at + 26) }
 {
     let number = text::add_word(out, at, b" (bytes ");
-    let to = text::add_decimal(out, number, first as u32);
+    let to = text::add_decimal(out, number, u32::from(first));
     let second = text::add_word(out, to, b" to ");
-    let end = text::add_decimal(out, second, (first as u32) + (width as u32) - 1);
+    let end = text::add_decimal(out, second, u32::from(first) + u32::from(width) - 1);
     text::add_word(out, end, b")")
 }
 
+#[tactic(auto, using(crate::proofs::Rows::nothing_laid), unfolding(crate::specs::Values::place_text))]
 fn add_place(out: &mut [u8], at: usize, place: Place) -> usize
     requires { at + 26 ≤ length out.old }
     ensures { (result ≡ at + length (place_text place)) × (out.new ≡ laid_at at (place_text place) out.old) × (result ≤ at + 26) }
 {
-    let first = place.at;
-    let width = place.width;
-    if width == 0 {
-        return at;
+    match place.width {
+        0 => at,
+        1 => add_one_byte(out, at, place.at),
+        width => add_bytes(out, at, place.at, width),
     }
-    if width == 1 {
-        return add_one_byte(out, at, first);
-    }
-    add_bytes(out, at, first, width)
 }
 
 // ---- a piece, and a row of them
@@ -565,11 +533,9 @@ fn add_piece(out: &mut [u8], at: usize, p: Piece) -> usize
     requires { at + 104 ≤ length out.old }
     ensures { (result ≡ at + length (piece_text p)) × (out.new ≡ laid_at at (piece_text p) out.old) × (result ≤ at + 104) }
 {
-    let value = p.value;
-    let place = p.place;
     let told = add_phrase(out, at, p.phrase);
-    let next = add_value(out, told, value);
-    add_place(out, next, place)
+    let next = add_value(out, told, p.value);
+    add_place(out, next, p.place)
 }
 
 // A row: its pieces one after the other.
@@ -578,11 +544,8 @@ pub fn add_row(out: &mut [u8], at: usize, row: [Piece; 10]) -> usize
     ensures { (result ≡ at + length (row_text row)) × (out.new ≡ laid_at at (row_text row) out.old) × (result ≤ at + 1040) }
 {
     let mut next = at;
-    let mut i = 0;
-    while i < 10 {
-        let p = row[i];
-        next = add_piece(out, next, p);
-        i += 1;
+    for piece in row {
+        next = add_piece(out, next, piece);
     }
     next
 }
@@ -599,17 +562,14 @@ pub fn bytes_at(at: u8, width: u8) -> Place
 pub fn said(phrase: u8) -> Piece
     ensures { result ≡ say phrase }
 {
-    let nothing = Value::Nothing;
-    let nowhere = bytes_at(0, 0);
-    found(phrase, nothing, nowhere)
+    told(phrase, Value::Nothing)
 }
 
 // With a value.
 pub fn told(phrase: u8, value: Value) -> Piece
     ensures { result ≡ tell phrase value }
 {
-    let place = bytes_at(0, 0);
-    found(phrase, value, place)
+    found(phrase, value, bytes_at(0, 0))
 }
 
 // With a value and the place where it stands.
@@ -630,7 +590,7 @@ pub fn add_index(out: &mut [u8], at: usize, index: u32) -> usize
     requires { at + 12 ≤ length out.old }
     ensures { (result ≡ at + length (index_text index)) × (out.new ≡ laid_at at (index_text index) out.old) × (result ≤ at + 12) }
 {
-    let mark = text::add_word(out, at, b"#");
+    let mark = text::add_byte(out, at, b'#');
     let number = text::add_decimal(out, mark, index);
-    text::add_word(out, number, b" ")
+    text::add_byte(out, number, b' ')
 }

@@ -1,25 +1,8 @@
 use native.Mathlib.Omega.{arith}
-use Rattle.text.proofs.Placed.{placed_next}
-use mathlib.Core.Path.{◌≡◌}
-use mathlib.Core.Bool.{true, false}
-use lib.Dec.{ltb}
-use borrow.Author.Tests.{lt-ltb, le-ltb}
-use Rattle.words.specs.Grouped.{grouped_text, grouped_by}
-use Prim.Native.Nat.{◌/◌}
-use Rattle.words.proofs.Lengths.{two_most}
+use Rattle.words.specs.Grouped.{grouped_text}
+use Rattle.words.proofs.Lengths.{count_most}
 use Rattle.words.proofs.add_count.Goals as goal
 
-pub returns-then-n-lt1000 : goal.returns-then-n-lt1000
-unfolding grouped_text grouped_by
-returns-then-n-lt1000 c = let a = c.args in let e : ltb a.n 1000 ≡ true = lt-ltb a.n 1000 (omega arith) in
-    simp e (c.add_decimal.ensures.0, c.add_decimal.ensures.1, omega (arith, c.add_decimal.ensures.2))
-
-pub add_word-requires : goal.add_word-requires
-add_word-requires c = omega (arith, c.requires, c.add_two_groups-next.ensures.0, two_most (c.args.n / 1000) (omega arith))
-
 pub returns : goal.returns
-unfolding grouped_text grouped_by
-returns c = let a = c.args in let f : ltb a.n 1000 ≡ false = le-ltb a.n 1000 (omega arith) in
-    let v = simp c.group_of-last.ensures at c.add_word.ensures in
-    let e = placed_next _ _ _ _ _ _ _ _ (omega arith) c.add_two_groups-next.ensures.0 c.add_two_groups-next.ensures.1 v.0 v.1 in
-    simp f (e.0, e.1, omega (arith, c.add_two_groups-next.ensures.0, v.0, two_most (a.n / 1000) (omega arith)))
+unfolding grouped_text
+returns c = let e = c.add_grouped.ensures in (e.0, e.1, omega (arith, e.0, count_most c.args.n (omega arith)))
