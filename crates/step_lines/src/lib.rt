@@ -3,18 +3,20 @@
 // answer is the place after it. Nothing is refused here: whoever asks has tested the room, 1,040 bytes for each row.
 #![tactic(auto)]
 
-ghost use Rattle.std.specs.Prelude.{◌≡◌, ◌+◌, ◌≤◌, length, [], ◌∷◌};
+ghost use Rattle.std.specs.Prelude.{◌≡◌, ◌+◌, ◌-◌, ◌≤◌, length, [], ◌∷◌, ◌++◌, replicate};
 ghost use Rattle.text.specs.Text.{laid_at};
 ghost use Rattle.wire.specs.Tests.{pick};
 ghost use Rattle.parties.specs.Parties.{by_side};
+ghost use Rattle.step_lines.specs.Words.{On};
+ghost use Rattle.words.specs.Pieces.{bytes_at, found, blank};
 ghost use Rattle.words.specs.Rows.{rows_text};
 ghost use Rattle.step_lines.specs.Rows.{money, passed, kind_place, limit_place, quote_place, size_place};
-ghost use Rattle.step_lines.specs.Way.{way_phrase, way_rule, since_piece, executed_phrase, filed_row, day_row, past_row, trade_row, party_row, soon_row, late_row, expiry_day_row, expiry_late_row, next_late_row, obvious_shut, opening_shut, catastrophic_shut, before_rows, way_rows, panel_row};
-ghost use Rattle.step_lines.specs.Theory.{gap_row, spread_rows, is_wide, quote_is, quoted_row, official_row, source_row, unpriced_row, unpriced_rows};
-ghost use Rattle.step_lines.specs.Error.{high_place, low_place, minimum_phrase, error_row};
-ghost use Rattle.step_lines.specs.Agreed.{verdict, made_row, none_row, agreed_piece, agreement_row_for, agreement_row};
-ghost use Rattle.step_lines.specs.Act.{move_words, near_row, undone_row, obvious_row, itself_row, far_row, violated, limit_row, opening_rule, counted_rows, acceptance_row, acceptance_rows, far_rows, even_rows, act_rows, end_rows};
-ghost use Rattle.step_lines.specs.Counts.{outcome_phrase, head_row, cover_by, cover_on, cover_of, size_piece, cover_rule, of_traded, adjusted_row, all_row, contracts_row};
+ghost use Rattle.step_lines.specs.Way.{way_phrase, way_rule, since_piece, executed_phrase, filed_row, obvious_shut, opening_shut, catastrophic_shut, before_rows, way_rows, panel_row};
+ghost use Rattle.step_lines.specs.Theory.{gap_row, spread_rows, is_wide, quote_is, source_row, unpriced_row, unpriced_rows};
+ghost use Rattle.step_lines.specs.Error.{minimum_phrase, error_row};
+ghost use Rattle.step_lines.specs.Agreed.{verdict, made_row, agreement_row};
+ghost use Rattle.step_lines.specs.Act.{move_words, obvious_row, itself_row, far_row, violated, limit_row, counted_rows, acceptance_row, acceptance_rows, far_rows, even_rows, act_rows, end_rows};
+ghost use Rattle.step_lines.specs.Counts.{outcome_phrase, head_row, cover_of, size_piece, cover_rule, of_traded, adjusted_row, all_row, contracts_row};
 ghost use Rattle.step_lines.specs.Explained.{settled_rows, after_rows, judged_rows, reached_rows, ruled_rows};
 
 use facts::{Agreement, Contracts, Day, Mills, Seconds, Side};
@@ -49,16 +51,8 @@ fn passed(t: Seconds) -> Value
     Value::Lapse(Some(t))
 }
 
-fn place_on(side: Side, a: Place, b: Place) -> Place
-    ensures { result ≡ by_side side a b }
-{
-    match side {
-        Side::Buy => a,
-        Side::Sell => b,
-    }
-}
-
-fn phrase_on(side: Side, a: u8, b: u8) -> u8
+// The first of two where the side is buy, the second where it is sell.
+fn by_side<T: Copy>(side: Side, a: T, b: T) -> T
     ensures { result ≡ by_side side a b }
 {
     match side {
@@ -70,58 +64,61 @@ fn phrase_on(side: Side, a: u8, b: u8) -> u8
 fn kind_place(side: Side) -> Place
     ensures { result ≡ kind_place side }
 {
-    place_on(side, words::bytes_at(64, 1), words::bytes_at(65, 1))
+    by_side(side, words::bytes_at(64, 1), words::bytes_at(65, 1))
 }
 
 fn limit_place(side: Side) -> Place
     ensures { result ≡ limit_place side }
 {
-    place_on(side, words::bytes_at(52, 4), words::bytes_at(60, 4))
+    by_side(side, words::bytes_at(52, 4), words::bytes_at(60, 4))
 }
 
 fn quote_place(side: Side) -> Place
     ensures { result ≡ quote_place side }
 {
-    place_on(side, words::bytes_at(24, 4), words::bytes_at(20, 4))
+    by_side(side, words::bytes_at(24, 4), words::bytes_at(20, 4))
 }
 
 fn size_place(side: Side) -> Place
     ensures { result ≡ size_place side }
 {
-    place_on(side, words::bytes_at(32, 4), words::bytes_at(28, 4))
+    by_side(side, words::bytes_at(32, 4), words::bytes_at(28, 4))
 }
 
 // The first of two phrases where the test holds.
 fn either(test: bool, a: u8, b: u8) -> u8
     ensures { result ≡ pick test a b }
 {
-    if test {
-        return a;
-    }
-    b
+    if test { a } else { b }
+}
+
+fn filed_on(phrase: u8, day: Day) -> Piece
+    ensures { result ≡ found phrase (On day) (bytes_at 66 1) }
+{
+    words::found(phrase, Value::On(day), words::bytes_at(66, 1))
+}
+
+// A row that starts with these pieces; those after them have no byte.
+fn row_of(pieces: &[Piece]) -> [Piece; 10]
+    requires { length pieces.now ≤ 10 }
+    ensures { result ≡ pieces.now ++ replicate (10 - length pieces.now) blank }
+{
+    let mut row = [words::said(words::NOTHING); 10];
+    row[..pieces.len()].copy_from_slice(pieces);
+    row
 }
 
 // ---- the way and the filing
 
-fn way_phrase(tried: Tried) -> u8
-    ensures { result ≡ way_phrase tried }
+// The phrase of the way that is open, and the paragraph that opens it.
+fn way_words(tried: Tried) -> (u8, u8)
+    ensures { (result.0 ≡ way_phrase tried) × (result.1 ≡ way_rule tried) }
 {
     match tried {
-        Tried::First => words::WAY_OBVIOUS,
-        Tried::Second(_) => words::WAY_OPENING,
-        Tried::Third(_) => words::WAY_CATASTROPHIC,
-        Tried::NoWay(_) => words::WAY_NONE,
-    }
-}
-
-fn way_rule(tried: Tried) -> u8
-    ensures { result ≡ way_rule tried }
-{
-    match tried {
-        Tried::First => words::RULE_OBVIOUS,
-        Tried::Second(_) => words::RULE_OPENING,
-        Tried::Third(_) => words::RULE_CATASTROPHIC,
-        Tried::NoWay(_) => words::RULE_LATE,
+        Tried::First => (words::WAY_OBVIOUS, words::RULE_OBVIOUS),
+        Tried::Second(_) => (words::WAY_OPENING, words::RULE_OPENING),
+        Tried::Third(_) => (words::WAY_CATASTROPHIC, words::RULE_CATASTROPHIC),
+        Tried::NoWay(_) => (words::WAY_NONE, words::RULE_LATE),
     }
 }
 
@@ -130,8 +127,7 @@ fn since_piece(day: Day, since: Seconds) -> Piece
 {
     match day {
         Day::TradeDate => words::told(words::COMMA, passed(since)),
-        Day::NextDay => words::said(0),
-        Day::Later => words::said(0),
+        _ => words::said(words::NOTHING),
     }
 }
 
@@ -140,403 +136,200 @@ fn executed_phrase(day: Day) -> u8
 {
     match day {
         Day::TradeDate => words::AFTER_EXECUTION,
-        Day::NextDay => words::EXECUTED,
-        Day::Later => words::EXECUTED,
+        _ => words::EXECUTED,
     }
 }
 
+#[tactic(auto, unfolding(crate::specs::Way::filed_row))]
 fn filed_row(clock: Clock, tried: Tried) -> [Piece; 10]
     ensures { result ≡ filed_row clock tried }
 {
-    let filed = clock.filed;
-    let day = clock.day;
-    let since = clock.since;
-    let executed = clock.executed;
-    let none = words::said(0);
-    [
+    let (way, rule) = way_words(tried);
+    row_of(&[
+        words::found(way, Value::Time(clock.filed), words::bytes_at(72, 4)),
+        filed_on(words::ON, clock.day),
+        since_piece(clock.day, clock.since),
         words::found(
-            way_phrase(tried),
-            Value::Time(filed),
-            words::bytes_at(72, 4),
-        ),
-        words::found(words::ON, Value::On(day), words::bytes_at(66, 1)),
-        since_piece(day, since),
-        words::found(
-            executed_phrase(day),
-            Value::Time(executed),
+            executed_phrase(clock.day),
+            Value::Time(clock.executed),
             words::bytes_at(16, 4),
         ),
-        words::said(way_rule(tried)),
-        none,
-        none,
-        none,
-        none,
-        none,
-    ]
-}
-
-// ---- why a way was shut
-
-fn day_row(phrase: u8, rule: u8, clock: Clock) -> [Piece; 10]
-    ensures { result ≡ day_row phrase rule clock }
-{
-    let day = clock.day;
-    let none = words::said(0);
-    [
-        words::found(phrase, Value::On(day), words::bytes_at(66, 1)),
         words::said(rule),
-        none,
-        none,
-        none,
-        none,
-        none,
-        none,
-        none,
-        none,
-    ]
+    ])
 }
 
-fn past_row(clock: Clock) -> [Piece; 10]
-    ensures { result ≡ past_row clock }
-{
-    let kind = clock.kind;
-    let side = clock.side;
-    let allowed = clock.allowed;
-    let none = words::said(0);
-    [
-        words::found(words::NOT_OBVIOUS_TIME, Value::Who(kind), kind_place(side)),
-        words::told(words::FOR, passed(allowed)),
-        words::said(words::RULE_OBVIOUS),
-        none,
-        none,
-        none,
-        none,
-        none,
-        none,
-        none,
-    ]
-}
+// ---- why a way was shut, by the cause
 
-fn trade_row(clock: Clock) -> [Piece; 10]
-    ensures { result ≡ trade_row clock }
-{
-    let opening = clock.opening;
-    let none = words::said(0);
-    [
-        words::found(
-            words::NOT_OPENING_TRADE,
-            Value::Flag(opening),
-            words::bytes_at(45, 1),
-        ),
-        words::said(words::RULE_OPENING),
-        none,
-        none,
-        none,
-        none,
-        none,
-        none,
-        none,
-        none,
-    ]
-}
-
-fn party_row(clock: Clock) -> [Piece; 10]
-    ensures { result ≡ party_row clock }
-{
-    let kind = clock.kind;
-    let side = clock.side;
-    let none = words::said(0);
-    [
-        words::found(words::NOT_OPENING_PARTY, Value::Who(kind), kind_place(side)),
-        words::said(words::RULE_OPENING),
-        none,
-        none,
-        none,
-        none,
-        none,
-        none,
-        none,
-        none,
-    ]
-}
-
-fn soon_row() -> [Piece; 10]
-    ensures { result ≡ soon_row }
-{
-    let none = words::said(0);
-    [
-        words::told(words::NOT_OPENING_SOON, passed(Seconds(1200))),
-        words::said(words::RULE_OPENING),
-        none,
-        none,
-        none,
-        none,
-        none,
-        none,
-        none,
-        none,
-    ]
-}
-
-fn late_row() -> [Piece; 10]
-    ensures { result ≡ late_row }
-{
-    let none = words::said(0);
-    [
-        words::told(words::NOT_OPENING_LATE, Value::Time(Seconds(59400))),
-        words::said(words::RULE_OPENING),
-        none,
-        none,
-        none,
-        none,
-        none,
-        none,
-        none,
-        none,
-    ]
-}
-
-fn expiry_day_row(clock: Clock) -> [Piece; 10]
-    ensures { result ≡ expiry_day_row clock }
-{
-    let expiry = clock.expiry;
-    let day = clock.day;
-    let none = words::said(0);
-    [
-        words::found(
-            words::NOT_CATASTROPHIC_EXPIRY,
-            Value::Flag(expiry),
-            words::bytes_at(46, 1),
-        ),
-        words::found(words::FILED_ON, Value::On(day), words::bytes_at(66, 1)),
-        words::said(words::RULE_CATASTROPHIC),
-        none,
-        none,
-        none,
-        none,
-        none,
-        none,
-        none,
-    ]
-}
-
-fn expiry_late_row(clock: Clock) -> [Piece; 10]
-    ensures { result ≡ expiry_late_row clock }
-{
-    let expiry = clock.expiry;
-    let none = words::said(0);
-    [
-        words::found(
-            words::NOT_CATASTROPHIC_EXPIRY,
-            Value::Flag(expiry),
-            words::bytes_at(46, 1),
-        ),
-        words::told(words::OPEN_UP_TO, Value::Time(Seconds(61200))),
-        words::said(words::RULE_CATASTROPHIC),
-        none,
-        none,
-        none,
-        none,
-        none,
-        none,
-        none,
-    ]
-}
-
-fn next_late_row() -> [Piece; 10]
-    ensures { result ≡ next_late_row }
-{
-    let none = words::said(0);
-    [
-        words::told(words::NOT_CATASTROPHIC_NEXT, Value::Time(Seconds(30600))),
-        words::said(words::RULE_CATASTROPHIC),
-        none,
-        none,
-        none,
-        none,
-        none,
-        none,
-        none,
-        none,
-    ]
-}
-
+#[tactic(auto, unfolding(crate::specs::Way::day_row, crate::specs::Way::past_row))]
 fn obvious_shut(cause: u8, clock: Clock) -> [Piece; 10]
     ensures { result ≡ obvious_shut cause clock }
 {
+    let rule = words::said(words::RULE_OBVIOUS);
     match cause {
-        1 => day_row(words::NOT_OBVIOUS_DAY, words::RULE_OBVIOUS, clock),
-        _ => past_row(clock),
+        1 => row_of(&[filed_on(words::NOT_OBVIOUS_DAY, clock.day), rule]),
+        _ => row_of(&[
+            words::found(
+                words::NOT_OBVIOUS_TIME,
+                Value::Who(clock.kind),
+                kind_place(clock.side),
+            ),
+            words::told(words::FOR, passed(clock.allowed)),
+            rule,
+        ]),
     }
 }
 
+#[tactic(auto, unfolding(crate::specs::Way::day_row, crate::specs::Way::trade_row, crate::specs::Way::party_row, crate::specs::Way::soon_row, crate::specs::Way::late_row))]
 fn opening_shut(cause: u8, clock: Clock) -> [Piece; 10]
     ensures { result ≡ opening_shut cause clock }
 {
+    let rule = words::said(words::RULE_OPENING);
     match cause {
-        1 => day_row(words::NOT_OPENING_DAY, words::RULE_OPENING, clock),
-        3 => trade_row(clock),
-        4 => party_row(clock),
-        5 => soon_row(),
-        _ => late_row(),
+        1 => row_of(&[filed_on(words::NOT_OPENING_DAY, clock.day), rule]),
+        3 => row_of(&[
+            words::found(
+                words::NOT_OPENING_TRADE,
+                Value::Flag(clock.opening),
+                words::bytes_at(45, 1),
+            ),
+            rule,
+        ]),
+        4 => row_of(&[
+            words::found(
+                words::NOT_OPENING_PARTY,
+                Value::Who(clock.kind),
+                kind_place(clock.side),
+            ),
+            rule,
+        ]),
+        5 => row_of(&[
+            words::told(words::NOT_OPENING_SOON, passed(Seconds(1200))),
+            rule,
+        ]),
+        _ => row_of(&[
+            words::told(words::NOT_OPENING_LATE, Value::Time(Seconds(59400))),
+            rule,
+        ]),
     }
 }
 
+#[tactic(auto, unfolding(crate::specs::Way::day_row, crate::specs::Way::expiry_day_row, crate::specs::Way::expiry_late_row, crate::specs::Way::next_late_row))]
 fn catastrophic_shut(cause: u8, clock: Clock) -> [Piece; 10]
     ensures { result ≡ catastrophic_shut cause clock }
 {
+    let expiry = words::found(
+        words::NOT_CATASTROPHIC_EXPIRY,
+        Value::Flag(clock.expiry),
+        words::bytes_at(46, 1),
+    );
+    let rule = words::said(words::RULE_CATASTROPHIC);
     match cause {
-        1 => expiry_day_row(clock),
-        7 => expiry_late_row(clock),
-        8 => day_row(words::NOT_CATASTROPHIC_DAY, words::RULE_CATASTROPHIC, clock),
-        _ => next_late_row(),
+        1 => row_of(&[expiry, filed_on(words::FILED_ON, clock.day), rule]),
+        7 => row_of(&[
+            expiry,
+            words::told(words::OPEN_UP_TO, Value::Time(Seconds(61200))),
+            rule,
+        ]),
+        8 => row_of(&[filed_on(words::NOT_CATASTROPHIC_DAY, clock.day), rule]),
+        _ => row_of(&[
+            words::told(words::NOT_CATASTROPHIC_NEXT, Value::Time(Seconds(30600))),
+            rule,
+        ]),
     }
 }
 
+#[tactic(auto, unfolding(crate::specs::Way::panel_row))]
 fn panel_row(clock: Clock) -> [Piece; 10]
     ensures { result ≡ panel_row clock }
 {
-    let decided = clock.decided;
-    let none = words::said(0);
-    [
-        words::found(words::PANEL, Value::Flag(decided), words::bytes_at(47, 1)),
+    row_of(&[
+        words::found(
+            words::PANEL,
+            Value::Flag(clock.decided),
+            words::bytes_at(47, 1),
+        ),
         words::said(words::RULE_PANEL),
-        none,
-        none,
-        none,
-        none,
-        none,
-        none,
-        none,
-        none,
-    ]
+    ])
 }
 
 // ---- the theoretical price
 
+#[tactic(auto, unfolding(crate::specs::Theory::gap_row))]
 fn gap_row(gap: Gap) -> [Piece; 10]
     ensures { result ≡ gap_row gap }
 {
-    let offer = gap.offer;
-    let bid = gap.bid;
-    let differential = gap.differential;
-    let reach = gap.reach;
-    let wide = gap.wide;
-    let none = words::said(0);
-    [
-        words::found(words::QUOTES, money(offer), words::bytes_at(24, 4)),
+    row_of(&[
+        words::found(words::QUOTES, money(gap.offer), words::bytes_at(24, 4)),
         words::found(
-            either(wide, words::AT_LEAST_THE_BID, words::UNDER_THE_BID),
-            money(bid),
+            either(gap.wide, words::AT_LEAST_THE_BID, words::UNDER_THE_BID),
+            money(gap.bid),
             words::bytes_at(20, 4),
         ),
         words::found(
             words::PLUS_TWICE,
-            money(differential),
+            money(gap.differential),
             words::bytes_at(88, 4),
         ),
-        words::told(words::EQUALS, money(reach)),
-        words::said(either(wide, words::WIDE, words::NOT_WIDE)),
-        none,
-        none,
-        none,
-        none,
-        none,
-    ]
+        words::told(words::EQUALS, money(gap.reach)),
+        words::said(either(gap.wide, words::WIDE, words::NOT_WIDE)),
+    ])
 }
 
 fn is_wide(spread: Option<Gap>) -> bool
     ensures { result ≡ is_wide spread }
 {
-    match spread {
-        None => false,
-        Some(gap) => gap.wide,
-    }
+    spread.is_some_and(|gap| gap.wide)
 }
 
 fn quote_is(side: Side, looked: Looked) -> Piece
     ensures { result ≡ quote_is side looked }
 {
-    let quote = looked.quote;
     words::found(
-        phrase_on(side, words::OFFER_IS, words::BID_IS),
-        Value::Dollars(quote),
+        by_side(side, words::OFFER_IS, words::BID_IS),
+        Value::Dollars(looked.quote),
         quote_place(side),
     )
 }
 
-fn quoted_row(side: Side, source: Source) -> [Piece; 10]
-    ensures { result ≡ quoted_row side source }
-{
-    let price = source.price;
-    let none = words::said(0);
-    [
-        words::found(words::TP, money(price), quote_place(side)),
-        words::said(phrase_on(side, words::THE_OFFER, words::THE_BID)),
-        none,
-        none,
-        none,
-        none,
-        none,
-        none,
-        none,
-        none,
-    ]
-}
-
-fn official_row(side: Side, looked: Looked, source: Source) -> [Piece; 10]
-    ensures { result ≡ official_row side looked source }
-{
-    let price = source.price;
-    let spread = looked.spread;
-    let wide = is_wide(spread);
-    let none = words::said(0);
-    [
-        words::found(words::TP, money(price), words::bytes_at(40, 4)),
-        words::said(words::OFFICIAL),
-        quote_is(side, looked),
-        words::said(either(wide, words::RULE_WIDE_OFFICIAL, words::RULE_OFFICIAL)),
-        none,
-        none,
-        none,
-        none,
-        none,
-        none,
-    ]
-}
-
+#[tactic(auto, unfolding(crate::specs::Theory::quoted_row, crate::specs::Theory::official_row))]
 fn source_row(side: Side, looked: Looked, source: Source, origin: Origin) -> [Piece; 10]
     ensures { result ≡ source_row side looked source origin }
 {
     match origin {
-        Origin::Quoted(_) => quoted_row(side, source),
-        Origin::Official => official_row(side, looked, source),
+        Origin::Quoted(_) => row_of(&[
+            words::found(words::TP, money(source.price), quote_place(side)),
+            words::said(by_side(side, words::THE_OFFER, words::THE_BID)),
+        ]),
+        Origin::Official => row_of(&[
+            words::found(words::TP, money(source.price), words::bytes_at(40, 4)),
+            words::said(words::OFFICIAL),
+            quote_is(side, looked),
+            words::said(either(
+                is_wide(looked.spread),
+                words::RULE_WIDE_OFFICIAL,
+                words::RULE_OFFICIAL,
+            )),
+        ]),
     }
 }
 
+#[tactic(auto, unfolding(crate::specs::Theory::unpriced_row))]
 fn unpriced_row(side: Side, looked: Looked) -> [Piece; 10]
     ensures { result ≡ unpriced_row side looked }
 {
-    let official = looked.official;
-    let spread = looked.spread;
-    let wide = is_wide(spread);
-    let none = words::said(0);
-    [
+    row_of(&[
         words::found(
             words::TP_NONE,
-            Value::Dollars(official),
+            Value::Dollars(looked.official),
             words::bytes_at(40, 4),
         ),
         quote_is(side, looked),
-        words::said(either(wide, words::RULE_WIDE_UNPRICED, words::RULE_UNPRICED)),
-        none,
-        none,
-        none,
-        none,
-        none,
-        none,
-        none,
-    ]
+        words::said(either(
+            is_wide(looked.spread),
+            words::RULE_WIDE_UNPRICED,
+            words::RULE_UNPRICED,
+        )),
+    ])
 }
 
 // ---- the error
@@ -545,46 +338,36 @@ fn minimum_phrase(way: Way) -> u8
     ensures { result ≡ minimum_phrase way }
 {
     match way {
-        Way::Obvious => words::OBVIOUS_MINIMUM,
-        Way::Opening => words::OBVIOUS_MINIMUM,
+        Way::Obvious | Way::Opening => words::OBVIOUS_MINIMUM,
         Way::Catastrophic => words::CATASTROPHIC_MINIMUM,
     }
 }
 
+#[tactic(auto, unfolding(crate::specs::Error::error_row))]
 fn error_row(side: Side, way: Way, off: Off) -> [Piece; 10]
     ensures { result ≡ error_row side way off }
 {
     let execution = words::bytes_at(8, 4);
     let nowhere = words::bytes_at(0, 0);
-    let high = off.high;
-    let low = off.low;
-    let minimum = off.minimum;
-    let reach = off.reach;
-    let by = off.by;
-    let floor = off.floor;
-    let row = off.row;
-    let top = row.top;
-    let none = words::said(0);
-    [
+    row_of(&[
         words::found(
             words::ERROR,
-            money(high),
-            place_on(side, execution, nowhere),
+            money(off.high),
+            by_side(side, execution, nowhere),
         ),
         words::found(
             either(off.wrong, words::IS_AT_LEAST, words::IS_UNDER),
-            money(low),
-            place_on(side, nowhere, execution),
+            money(off.low),
+            by_side(side, nowhere, execution),
         ),
-        words::told(words::PLUS, money(minimum)),
-        words::told(words::EQUALS, money(reach)),
-        words::told(words::BY, money(by)),
-        words::told(words::SEMICOLON, money(minimum)),
-        words::told(minimum_phrase(way), money(floor)),
-        words::told(words::TO, money(top)),
+        words::told(words::PLUS, money(off.minimum)),
+        words::told(words::EQUALS, money(off.reach)),
+        words::told(words::BY, money(off.by)),
+        words::told(words::SEMICOLON, money(off.minimum)),
+        words::told(minimum_phrase(way), money(off.floor)),
+        words::told(words::TO, money(off.row.top)),
         words::said(words::RULE_ERROR),
-        none,
-    ]
+    ])
 }
 
 // ---- agreement
@@ -599,87 +382,62 @@ fn verdict(counts: u8, ignored: u8) -> u8
     }
 }
 
+#[tactic(auto, unfolding(crate::specs::Agreed::made_row))]
 fn made_row(price: Piece, counts: u8, settled: Settled) -> [Piece; 10]
     ensures { result ≡ made_row price counts settled }
 {
-    let terms = settled.terms;
-    let agreement = terms.agreement;
-    let made = terms.made;
-    let allowed = settled.allowed;
-    let none = words::said(0);
-    [
+    row_of(&[
         words::found(
             words::AGREEMENT,
-            Value::Terms(agreement),
+            Value::Terms(settled.terms.agreement),
             words::bytes_at(67, 1),
         ),
         price,
-        words::found(words::MADE, passed(made), words::bytes_at(76, 4)),
+        words::found(
+            words::MADE,
+            passed(settled.terms.made),
+            words::bytes_at(76, 4),
+        ),
         words::told(
             either(
                 settled.customer,
                 words::WITH_CUSTOMER,
                 words::WITHOUT_CUSTOMER,
             ),
-            passed(allowed),
+            passed(settled.allowed),
         ),
         words::said(verdict(counts, settled.ignored)),
-        none,
-        none,
-        none,
-        none,
-        none,
-    ]
+    ])
 }
 
-fn none_row(settled: Settled) -> [Piece; 10]
-    ensures { result ≡ none_row settled }
-{
-    let terms = settled.terms;
-    let agreement = terms.agreement;
-    let none = words::said(0);
-    [
-        words::found(
-            words::AGREEMENT,
-            Value::Terms(agreement),
-            words::bytes_at(67, 1),
-        ),
-        words::said(words::NO_AGREEMENT),
-        none,
-        none,
-        none,
-        none,
-        none,
-        none,
-        none,
-        none,
-    ]
-}
-
-fn agreed_piece(price: Option<Mills>) -> Piece
-    ensures { result ≡ agreed_piece price }
-{
-    words::found(words::COMMA, Value::Dollars(price), words::bytes_at(68, 4))
-}
-
-fn agreement_row_for(agreement: Agreement, settled: Settled) -> [Piece; 10]
-    ensures { result ≡ agreement_row_for agreement settled }
-{
-    let terms = settled.terms;
-    let agreed = terms.agreed;
-    match agreement {
-        Agreement::NotMade => none_row(settled),
-        Agreement::OnPrice => made_row(agreed_piece(agreed), words::PRICE_COUNTS, settled),
-        Agreement::ToNullify => made_row(words::said(0), words::NULLIFY_COUNTS, settled),
-    }
-}
-
+#[tactic(auto, unfolding(crate::specs::Agreed::agreement_row, crate::specs::Agreed::none_row))]
 fn agreement_row(settled: Settled) -> [Piece; 10]
     ensures { result ≡ agreement_row settled }
 {
-    let terms = settled.terms;
-    let agreement = terms.agreement;
-    agreement_row_for(agreement, settled)
+    match settled.terms.agreement {
+        Agreement::NotMade => row_of(&[
+            words::found(
+                words::AGREEMENT,
+                Value::Terms(settled.terms.agreement),
+                words::bytes_at(67, 1),
+            ),
+            words::said(words::NO_AGREEMENT),
+        ]),
+        Agreement::OnPrice => made_row(
+            words::found(
+                words::COMMA,
+                Value::Dollars(settled.terms.agreed),
+                words::bytes_at(68, 4),
+            ),
+            words::PRICE_COUNTS,
+            settled,
+        ),
+        Agreement::ToNullify => made_row(
+            words::said(words::NOTHING),
+            words::NULLIFY_COUNTS,
+            settled,
+        ),
+    }
 }
 
 // ---- the act
@@ -687,156 +445,102 @@ fn agreement_row(settled: Settled) -> [Piece; 10]
 fn move_words(side: Side) -> u8
     ensures { result ≡ move_words side }
 {
-    phrase_on(side, words::PLUS, words::MINUS)
+    by_side(side, words::PLUS, words::MINUS)
 }
 
-fn near_row(side: Side, tp: Mills, near: Near) -> [Piece; 10]
-    ensures { result ≡ near_row side tp near }
-{
-    let buyer = near.buyer;
-    let seller = near.seller;
-    let by = near.by;
-    let price = near.price;
-    let none = words::said(0);
-    [
-        words::found(words::ACT_BUYER, Value::Who(buyer), words::bytes_at(64, 1)),
-        words::found(words::SELLER_IS, Value::Who(seller), words::bytes_at(65, 1)),
-        words::told(words::COLON, money(tp)),
-        words::told(move_words(side), money(by)),
-        words::told(words::EQUALS, money(price)),
-        words::said(words::RULE_OBVIOUS_ACT),
-        none,
-        none,
-        none,
-        none,
-    ]
-}
-
-fn undone_row(near: Near) -> [Piece; 10]
-    ensures { result ≡ undone_row near }
-{
-    let buyer = near.buyer;
-    let seller = near.seller;
-    let none = words::said(0);
-    [
-        words::found(words::ACT_BUYER, Value::Who(buyer), words::bytes_at(64, 1)),
-        words::found(words::SELLER_IS, Value::Who(seller), words::bytes_at(65, 1)),
-        words::said(words::UNDONE),
-        none,
-        none,
-        none,
-        none,
-        none,
-        none,
-        none,
-    ]
-}
-
+#[tactic(auto, unfolding(crate::specs::Act::near_row, crate::specs::Act::undone_row))]
 fn obvious_row(side: Side, tp: Mills, near: Near) -> [Piece; 10]
     ensures { result ≡ obvious_row side tp near }
 {
+    let buyer = words::found(
+        words::ACT_BUYER,
+        Value::Who(near.buyer),
+        words::bytes_at(64, 1),
+    );
+    let seller = words::found(
+        words::SELLER_IS,
+        Value::Who(near.seller),
+        words::bytes_at(65, 1),
+    );
     if near.customer {
-        return undone_row(near);
+        return row_of(&[buyer, seller, words::said(words::UNDONE)]);
     }
-    near_row(side, tp, near)
+    row_of(&[
+        buyer,
+        seller,
+        words::told(words::COLON, money(tp)),
+        words::told(move_words(side), money(near.by)),
+        words::told(words::EQUALS, money(near.price)),
+        words::said(words::RULE_OBVIOUS_ACT),
+    ])
 }
 
+#[tactic(auto, unfolding(crate::specs::Act::itself_row))]
 fn itself_row(tp: Mills) -> [Piece; 10]
     ensures { result ≡ itself_row tp }
 {
-    let none = words::said(0);
-    [
+    row_of(&[
         words::told(words::ACT_ITSELF, money(tp)),
         words::said(words::RULE_OPENING_ACT),
-        none,
-        none,
-        none,
-        none,
-        none,
-        none,
-        none,
-        none,
-    ]
+    ])
 }
 
+#[tactic(auto, unfolding(crate::specs::Act::far_row))]
 fn far_row(side: Side, tp: Mills, far: Far) -> [Piece; 10]
     ensures { result ≡ far_row side tp far }
 {
-    let by = far.by;
-    let price = far.price;
-    let none = words::said(0);
-    [
+    row_of(&[
         words::told(words::ACT, money(tp)),
-        words::told(move_words(side), money(by)),
-        words::told(words::EQUALS, money(price)),
+        words::told(move_words(side), money(far.by)),
+        words::told(words::EQUALS, money(far.price)),
         words::said(words::RULE_CATASTROPHIC_ACT),
-        none,
-        none,
-        none,
-        none,
-        none,
-        none,
-    ]
+    ])
 }
 
 fn violated(limit: Limit) -> u8
     ensures { result ≡ violated limit }
 {
-    let side = limit.side;
-    either(
-        limit.stopped,
-        phrase_on(side, words::IS_ABOVE, words::IS_BELOW),
-        words::KEEPS,
-    )
+    match (limit.stopped, limit.side) {
+        (true, Side::Buy) => words::IS_ABOVE,
+        (true, Side::Sell) => words::IS_BELOW,
+        (false, _) => words::KEEPS,
+    }
 }
 
+#[tactic(auto, unfolding(crate::specs::Act::limit_row))]
 fn limit_row(rule: u8, limit: Limit) -> [Piece; 10]
     ensures { result ≡ limit_row rule limit }
 {
-    let side = limit.side;
-    let kind = limit.kind;
-    let own = limit.limit;
-    let price = limit.price;
-    let none = words::said(0);
-    [
+    row_of(&[
         words::found(
-            phrase_on(side, words::LIMIT_BUYER, words::LIMIT_SELLER),
-            Value::Who(kind),
-            kind_place(side),
+            by_side(limit.side, words::LIMIT_BUYER, words::LIMIT_SELLER),
+            Value::Who(limit.kind),
+            kind_place(limit.side),
         ),
-        words::found(words::ITS_LIMIT, Value::Dollars(own), limit_place(side)),
-        words::told(words::SEMICOLON, money(price)),
+        words::found(
+            words::ITS_LIMIT,
+            Value::Dollars(limit.limit),
+            limit_place(limit.side),
+        ),
+        words::told(words::SEMICOLON, money(limit.price)),
         words::said(violated(limit)),
         words::said(rule),
-        none,
-        none,
-        none,
-        none,
-        none,
-    ]
+    ])
 }
 
+#[tactic(auto, unfolding(crate::specs::Act::acceptance_row))]
 fn acceptance_row(far: Far) -> [Piece; 10]
     ensures { result ≡ acceptance_row far }
 {
-    let accepted = far.accepted;
-    let none = words::said(0);
-    [
+    row_of(&[
         words::found(
             words::ACCEPTANCE,
-            Value::Lapse(accepted),
+            Value::Lapse(far.accepted),
             words::bytes_at(80, 4),
         ),
         words::told(words::ALLOWED, passed(Seconds(1800))),
         words::said(either(far.timely, words::IN_TIME, words::NOT_IN_TIME)),
-        none,
-        none,
-        none,
-        none,
-        none,
-        none,
-        none,
-    ]
+    ])
 }
 
 // ---- the head and the contracts
@@ -852,56 +556,28 @@ fn outcome_phrase(outcome: u8) -> u8
     }
 }
 
+#[tactic(auto, unfolding(crate::specs::Counts::head_row))]
 fn head_row(n: Figures) -> [Piece; 10]
     ensures { result ≡ head_row n }
 {
-    let none = words::said(0);
-    [
+    row_of(&[
         words::told(words::TRADE, Value::Number(n.trade)),
         words::said(outcome_phrase(n.outcome)),
         words::told(words::REASON, Value::Number(n.reason as u32)),
         words::said(words::END),
-        none,
-        none,
-        none,
-        none,
-        none,
-        none,
-    ]
-}
-
-fn cover_by(origin: Origin) -> Cover
-    ensures { result ≡ cover_by origin }
-{
-    match origin {
-        Origin::Quoted(size) => Cover::UpTo(size),
-        Origin::Official => Cover::ByOfficial,
-    }
-}
-
-fn cover_on(way: Way, origin: Origin) -> Cover
-    ensures { result ≡ cover_on way origin }
-{
-    match way {
-        Way::Obvious => Cover::Every,
-        Way::Opening => cover_by(origin),
-        Way::Catastrophic => Cover::Every,
-    }
+    ])
 }
 
 fn cover_of(reached: Reached) -> Cover
     ensures { result ≡ cover_of reached }
 {
-    match reached {
-        Reached::Late => Cover::Every,
-        Reached::Decided => Cover::Every,
-        Reached::Unpriced(_) => Cover::Every,
-        Reached::Priced(judged) => {
-            let way = judged.way;
-            let source = judged.source;
-            let origin = source.origin;
-            cover_on(way, origin)
-        }
+    let Reached::Priced(judged) = reached else {
+        return Cover::Every;
+    };
+    match (judged.way, judged.source.origin) {
+        (Way::Opening, Origin::Quoted(size)) => Cover::UpTo(size),
+        (Way::Opening, Origin::Official) => Cover::ByOfficial,
+        _ => Cover::Every,
     }
 }
 
@@ -909,13 +585,12 @@ fn size_piece(side: Side, cover: Cover) -> Piece
     ensures { result ≡ size_piece side cover }
 {
     match cover {
-        Cover::Every => words::said(0),
         Cover::UpTo(size) => words::found(
             words::QUOTE_SIZE,
             Value::Count(size.0),
             size_place(side),
         ),
-        Cover::ByOfficial => words::said(0),
+        _ => words::said(words::NOTHING),
     }
 }
 
@@ -935,48 +610,36 @@ fn of_traded(traded: Contracts) -> Piece
     words::found(words::OF, Value::Count(traded.0), words::bytes_at(12, 4))
 }
 
+#[tactic(auto, unfolding(crate::specs::Counts::adjusted_row))]
 fn adjusted_row(traded: Contracts, side: Side, cover: Cover, n: Figures) -> [Piece; 10]
     ensures { result ≡ adjusted_row traded side cover n }
 {
-    let price = facts::price_of(n.price);
-    let none = words::said(0);
-    [
+    row_of(&[
         words::told(words::CONTRACTS, Value::Count(n.adjusted)),
         of_traded(traded),
-        words::told(words::ADJUSTED_TO, Value::Dollars(price)),
+        words::told(words::ADJUSTED_TO, Value::Dollars(facts::price_of(n.price))),
         words::told(words::COMMA, Value::Count(n.standing)),
         words::said(words::STAND),
         size_piece(side, cover),
         words::said(cover_rule(cover)),
-        none,
-        none,
-        none,
-    ]
+    ])
 }
 
+#[tactic(auto, unfolding(crate::specs::Counts::all_row))]
 fn all_row(traded: Contracts, count: u32, phrase: u8) -> [Piece; 10]
     ensures { result ≡ all_row traded count phrase }
 {
-    let none = words::said(0);
-    [
+    row_of(&[
         words::told(words::CONTRACTS, Value::Count(count)),
         of_traded(traded),
         words::said(phrase),
-        none,
-        none,
-        none,
-        none,
-        none,
-        none,
-        none,
-    ]
+    ])
 }
 
 fn contracts_row(traded: Contracts, side: Side, cover: Cover, n: Figures) -> [Piece; 10]
     ensures { result ≡ contracts_row traded side cover n }
 {
-    let outcome = n.outcome;
-    match outcome {
+    match n.outcome {
         1 => adjusted_row(traded, side, cover, n),
         2 => all_row(traded, n.nullified, words::NULLIFIED),
         _ => all_row(traded, n.standing, words::ALL_STAND),
@@ -1018,6 +681,7 @@ fn add_way(out: &mut [u8], at: usize, clock: Clock, tried: Tried) -> usize
     add_before(out, next, clock, tried)
 }
 
+#[tactic(auto, using(words::proofs::Runs::rows_none, words::proofs::Runs::rows_one, words::proofs::Rows::nothing_laid))]
 fn add_spread(out: &mut [u8], at: usize, spread: Option<Gap>) -> usize
     requires { at + 1040 ≤ length out.old }
     ensures { (result ≡ at + length (rows_text (spread_rows spread))) × (out.new ≡ laid_at at (rows_text (spread_rows spread)) out.old) × (result ≤ at + 1040) }
@@ -1032,11 +696,11 @@ fn add_unpriced(out: &mut [u8], at: usize, side: Side, looked: Looked) -> usize
     requires { at + 2080 ≤ length out.old }
     ensures { (result ≡ at + length (rows_text (unpriced_rows side looked))) × (out.new ≡ laid_at at (rows_text (unpriced_rows side looked)) out.old) × (result ≤ at + 2080) }
 {
-    let spread = looked.spread;
-    let next = add_spread(out, at, spread);
+    let next = add_spread(out, at, looked.spread);
     words::add_row(out, next, unpriced_row(side, looked))
 }
 
+#[tactic(auto, using(words::proofs::Runs::rows_none, words::proofs::Runs::rows_one, words::proofs::Rows::nothing_laid))]
 fn add_counted(out: &mut [u8], at: usize, limit: Limit) -> usize
     requires { at + 1040 ≤ length out.old }
     ensures { (result ≡ at + length (rows_text (counted_rows limit))) × (out.new ≡ laid_at at (rows_text (counted_rows limit)) out.old) × (result ≤ at + 1040) }
@@ -1047,13 +711,12 @@ fn add_counted(out: &mut [u8], at: usize, limit: Limit) -> usize
     at
 }
 
+#[tactic(auto, using(words::proofs::Runs::rows_none, words::proofs::Runs::rows_one, words::proofs::Rows::nothing_laid))]
 fn add_acceptance(out: &mut [u8], at: usize, far: Far) -> usize
     requires { at + 1040 ≤ length out.old }
     ensures { (result ≡ at + length (rows_text (acceptance_rows far))) × (out.new ≡ laid_at at (rows_text (acceptance_rows far)) out.old) × (result ≤ at + 1040) }
 {
-    let buyer = far.buyer;
-    let seller = far.seller;
-    if buyer.stopped | seller.stopped {
+    if far.buyer.stopped || far.seller.stopped {
         return words::add_row(out, at, acceptance_row(far));
     }
     at
@@ -1063,11 +726,9 @@ fn add_far(out: &mut [u8], at: usize, side: Side, tp: Mills, far: Far) -> usize
     requires { at + 4160 ≤ length out.old }
     ensures { (result ≡ at + length (rows_text (far_rows side tp far))) × (out.new ≡ laid_at at (rows_text (far_rows side tp far)) out.old) × (result ≤ at + 4160) }
 {
-    let buyer = far.buyer;
-    let seller = far.seller;
     let priced = words::add_row(out, at, far_row(side, tp, far));
-    let bought = add_counted(out, priced, buyer);
-    let sold = add_counted(out, bought, seller);
+    let bought = add_counted(out, priced, far.buyer);
+    let sold = add_counted(out, bought, far.seller);
     add_acceptance(out, sold, far)
 }
 
@@ -1075,12 +736,12 @@ fn add_even(out: &mut [u8], at: usize, tp: Mills, even: Even) -> usize
     requires { at + 2080 ≤ length out.old }
     ensures { (result ≡ at + length (rows_text (even_rows tp even))) × (out.new ≡ laid_at at (rows_text (even_rows tp even)) out.old) × (result ≤ at + 2080) }
 {
-    let tested = even.tested;
     let rule = either(even.maker, words::RULE_OWN_LIMIT, words::RULE_OTHER_LIMIT);
     let next = words::add_row(out, at, itself_row(tp));
-    words::add_row(out, next, limit_row(rule, tested))
+    words::add_row(out, next, limit_row(rule, even.tested))
 }
 
+#[tactic(auto, using(words::proofs::Runs::rows_none, words::proofs::Runs::rows_one, words::proofs::Rows::nothing_laid))]
 fn add_act(out: &mut [u8], at: usize, side: Side, tp: Mills, acting: Acting) -> usize
     requires { at + 4160 ≤ length out.old }
     ensures { (result ≡ at + length (rows_text (act_rows side tp acting))) × (out.new ≡ laid_at at (rows_text (act_rows side tp acting)) out.old) × (result ≤ at + 4160) }
@@ -1092,13 +753,13 @@ fn add_act(out: &mut [u8], at: usize, side: Side, tp: Mills, acting: Acting) -> 
     }
 }
 
+#[tactic(auto, using(words::proofs::Runs::rows_none, words::proofs::Runs::rows_one, words::proofs::Rows::nothing_laid))]
 fn add_end(out: &mut [u8], at: usize, side: Side, tp: Mills, end: End) -> usize
     requires { at + 4160 ≤ length out.old }
     ensures { (result ≡ at + length (rows_text (end_rows side tp end))) × (out.new ≡ laid_at at (rows_text (end_rows side tp end)) out.old) × (result ≤ at + 4160) }
 {
     match end {
-        End::PriceCounts(_) => at,
-        End::NullifyCounts => at,
+        End::PriceCounts(_) | End::NullifyCounts => at,
         End::Acted(acting) => add_act(out, at, side, tp, acting),
     }
 }
@@ -1107,11 +768,11 @@ fn add_settled(out: &mut [u8], at: usize, side: Side, tp: Mills, settled: Settle
     requires { at + 5200 ≤ length out.old }
     ensures { (result ≡ at + length (rows_text (settled_rows side tp settled))) × (out.new ≡ laid_at at (rows_text (settled_rows side tp settled)) out.old) × (result ≤ at + 5200) }
 {
-    let end = settled.end;
     let next = words::add_row(out, at, agreement_row(settled));
-    add_end(out, next, side, tp, end)
+    add_end(out, next, side, tp, settled.end)
 }
 
+#[tactic(auto, using(words::proofs::Runs::rows_none, words::proofs::Runs::rows_one, words::proofs::Rows::nothing_laid))]
 fn add_after(out: &mut [u8], at: usize, side: Side, tp: Mills, after: Option<Settled>) -> usize
     requires { at + 5200 ≤ length out.old }
     ensures { (result ≡ at + length (rows_text (after_rows side tp after))) × (out.new ≡ laid_at at (rows_text (after_rows side tp after)) out.old) × (result ≤ at + 5200) }
@@ -1126,30 +787,24 @@ fn add_judged(out: &mut [u8], at: usize, side: Side, judged: Judged) -> usize
     requires { at + 8320 ≤ length out.old }
     ensures { (result ≡ at + length (rows_text (judged_rows side judged))) × (out.new ≡ laid_at at (rows_text (judged_rows side judged)) out.old) × (result ≤ at + 8320) }
 {
-    let looked = judged.looked;
-    let spread = looked.spread;
     let source = judged.source;
-    let origin = source.origin;
-    let tp = source.price;
-    let way = judged.way;
-    let off = judged.off;
-    let after = judged.after;
-    let quoted = add_spread(out, at, spread);
-    let priced = words::add_row(out, quoted, source_row(side, looked, source, origin));
-    let tested = words::add_row(out, priced, error_row(side, way, off));
-    add_after(out, tested, side, tp, after)
+    let quoted = add_spread(out, at, judged.looked.spread);
+    let row = source_row(side, judged.looked, source, source.origin);
+    let priced = words::add_row(out, quoted, row);
+    let tested = words::add_row(out, priced, error_row(side, judged.way, judged.off));
+    add_after(out, tested, side, source.price, judged.after)
 }
 
+#[tactic(auto, using(words::proofs::Runs::rows_none, words::proofs::Runs::rows_one, words::proofs::Rows::nothing_laid))]
 fn add_reached(out: &mut [u8], at: usize, clock: Clock, reached: Reached) -> usize
     requires { at + 8320 ≤ length out.old }
     ensures { (result ≡ at + length (rows_text (reached_rows clock reached))) × (out.new ≡ laid_at at (rows_text (reached_rows clock reached)) out.old) × (result ≤ at + 8320) }
 {
-    let side = clock.side;
     match reached {
         Reached::Late => at,
         Reached::Decided => words::add_row(out, at, panel_row(clock)),
-        Reached::Unpriced(looked) => add_unpriced(out, at, side, looked),
-        Reached::Priced(judged) => add_judged(out, at, side, judged),
+        Reached::Unpriced(looked) => add_unpriced(out, at, clock.side, looked),
+        Reached::Priced(judged) => add_judged(out, at, clock.side, judged),
     }
 }
 
@@ -1158,14 +813,10 @@ pub fn add_steps(out: &mut [u8], at: usize, steps: Steps, n: Figures) -> usize
     requires { at + 14560 ≤ length out.old }
     ensures { (result ≡ at + length (rows_text (ruled_rows steps n))) × (out.new ≡ laid_at at (rows_text (ruled_rows steps n)) out.old) × (result ≤ at + 14560) }
 {
-    let clock = steps.clock;
-    let side = clock.side;
-    let tried = steps.tried;
-    let reached = steps.reached;
-    let trade = steps.trade;
-    let traded = trade.contracts;
     let head = words::add_row(out, at, head_row(n));
-    let way = add_way(out, head, clock, tried);
-    let last = add_reached(out, way, clock, reached);
-    words::add_row(out, last, contracts_row(traded, side, cover_of(reached), n))
+    let way = add_way(out, head, steps.clock, steps.tried);
+    let last = add_reached(out, way, steps.clock, steps.reached);
+    let cover = cover_of(steps.reached);
+    let row = contracts_row(steps.trade.contracts, steps.clock.side, cover, n);
+    words::add_row(out, last, row)
 }

@@ -1,9 +1,8 @@
 -- A row, piece by piece; and nothing written.
-use Prim.Native.Nat.{ℕ, zero, suc, ◌+◌, ◌≤◌, ◌<◌}
+use Prim.Native.Nat.{ℕ, ◌+◌, ◌≤◌, ◌<◌}
 use mathlib.Core.Path.{◌≡◌, refl, ap}
 use mathlib.Core.List.{List, [], ◌∷◌, ◌++◌, append_assoc, append-nil}
 use native.Mathlib.Numerals.{add-one}
-use native.Mathlib.Nat.{not-suc-le-zero}
 use native.Mathlib.Omega.{arith}
 use lib.ListN.{length, get_or, take, take-append-drop}
 use lib.Seq.{length-take-le, take-suc}
@@ -33,9 +32,3 @@ pub row_more : (at k : ℕ) (ps : List Piece) (i : ℕ) (d : Piece) (l m : List 
     → (k ≡ at + length (row_text (take i ps) ++ piece_text (get_or ps i d))) × (m ≡ laid_at at (row_text (take i ps) ++ piece_text (get_or ps i d)) l)
     → (k ≡ at + length (row_text (take (i + 1) ps))) × (m ≡ laid_at at (row_text (take (i + 1) ps)) l)
 row_more at k ps i d l m h e = rw (row_next ps i d h) e
-
-pub all_taken : (ps : List Piece) (i : ℕ) → length ps ≤ i → take i ps ≡ ps
-all_taken [] zero h = refl
-all_taken [] (suc i) h = refl
-all_taken (p ∷ ps) zero h = absurd (not-suc-le-zero h)
-all_taken (p ∷ ps) (suc i) h = ap (λ (l : List Piece). p ∷ l) (all_taken ps i (omega arith))

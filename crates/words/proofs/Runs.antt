@@ -1,12 +1,10 @@
 -- A run of rows: what has been written from a place on, and rows more.
 use Prim.Native.Nat.{ℕ, ◌+◌, ◌≤◌}
 use mathlib.Core.Path.{◌≡◌, refl, ap}
-use mathlib.Core.Bool.{Bool, true}
 use mathlib.Core.List.{List, [], ◌∷◌, ◌++◌, append_assoc, append-nil}
 use native.Mathlib.Omega.{arith}
 use lib.ListN.{length, take-append-drop}
 use lib.Seq.{length-take-le}
-use Rattle.wire.specs.Tests.{pick}
 use Rattle.wire.specs.Laid.{laid}
 use Rattle.text.specs.Text.{laid_at}
 use Rattle.text.proofs.Placed.{placed_next}
@@ -22,6 +20,10 @@ pub rows_append : (rs qs : List (List Piece)) → rows_text (rs ++ qs) ≡ rows_
 unfolding rows_text
 rows_append [] qs = refl
 rows_append (r ∷ rs) qs = rw append_assoc (ap (λ (w : List ℕ). row_text r ++ w) (rows_append rs qs))
+
+pub rows_none : rows_text [] ≡ []
+unfolding rows_text
+rows_none = refl
 
 pub rows_one : (r : List Piece) → rows_text (r ∷ []) ≡ row_text r
 unfolding rows_text
@@ -49,7 +51,3 @@ pub row_more : (at k k' most : ℕ) (rs : List (List Piece)) (p q : List Piece) 
     → (k' ≡ k + length (row_text p)) × (m' ≡ laid_at k (row_text p) m) × (k' ≤ most) → Stand at l (rs ++ (q ∷ [])) k' m'
 row_more at k k' most rs p q l m m' h s e w =
     rw (← e, rows_append rs (p ∷ []), rows_one p) (placed_next at k k' (rows_text rs) (row_text p) l m m' h s.0 s.1 w.0 w.1)
-
--- rows that a test chose
-pub rows_taken : (b : Bool) (at k : ℕ) (x y : List (List Piece)) (l m : List ℕ) → b ≡ true → Stand at l x k m → Stand at l (pick b x y) k m
-rows_taken b at k x y l m e s = rw e s
