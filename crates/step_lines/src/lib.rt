@@ -292,10 +292,10 @@ fn quote_is(side: Side, looked: Looked) -> Piece
 }
 
 #[tactic(auto, unfolding(crate::specs::Theory::quoted_row, crate::specs::Theory::official_row))]
-fn source_row(side: Side, looked: Looked, source: Source, origin: Origin) -> [Piece; 10]
-    ensures { result ≡ source_row side looked source origin }
+fn source_row(side: Side, looked: Looked, source: Source) -> [Piece; 10]
+    ensures { result ≡ source_row side looked source source.origin }
 {
-    match origin {
+    match source.origin {
         Origin::Quoted(_) => row_of(&[
             words::found(words::TP, money(source.price), quote_place(side)),
             words::said(by_side(side, words::THE_OFFER, words::THE_BID)),
@@ -563,7 +563,7 @@ fn head_row(n: Figures) -> [Piece; 10]
     row_of(&[
         words::told(words::TRADE, Value::Number(n.trade)),
         words::said(outcome_phrase(n.outcome)),
-        words::told(words::REASON, Value::Number(n.reason as u32)),
+        words::told(words::REASON, Value::Number(u32::from(n.reason))),
         words::said(words::END),
     ])
 }
@@ -649,6 +649,7 @@ fn contracts_row(traded: Contracts, side: Side, cover: Cover, n: Figures) -> [Pi
 // ---- the rows written
 
 // Why the obvious and the opening way were shut.
+#[tactic(auto, using(words::proofs::Runs::more_rows))]
 fn add_shut(out: &mut [u8], at: usize, clock: Clock, obvious: u8, opening: u8) -> usize
     requires { at + 2080 ≤ length out.old }
     ensures { (result ≡ at + length (rows_text (obvious_shut obvious clock ∷ opening_shut opening clock ∷ []))) × (out.new ≡ laid_at at (rows_text (obvious_shut obvious clock ∷ opening_shut opening clock ∷ [])) out.old) × (result ≤ at + 2080) }
@@ -658,6 +659,7 @@ fn add_shut(out: &mut [u8], at: usize, clock: Clock, obvious: u8, opening: u8) -
 }
 
 // Why each way before the open one was shut.
+#[tactic(auto, using(words::proofs::Runs::more_rows))]
 fn add_before(out: &mut [u8], at: usize, clock: Clock, tried: Tried) -> usize
     requires { at + 3120 ≤ length out.old }
     ensures { (result ≡ at + length (rows_text (before_rows clock tried))) × (out.new ≡ laid_at at (rows_text (before_rows clock tried)) out.old) × (result ≤ at + 3120) }
@@ -673,6 +675,7 @@ fn add_before(out: &mut [u8], at: usize, clock: Clock, tried: Tried) -> usize
     }
 }
 
+#[tactic(auto, using(words::proofs::Runs::more_rows))]
 fn add_way(out: &mut [u8], at: usize, clock: Clock, tried: Tried) -> usize
     requires { at + 4160 ≤ length out.old }
     ensures { (result ≡ at + length (rows_text (way_rows clock tried))) × (out.new ≡ laid_at at (rows_text (way_rows clock tried)) out.old) × (result ≤ at + 4160) }
@@ -681,7 +684,7 @@ fn add_way(out: &mut [u8], at: usize, clock: Clock, tried: Tried) -> usize
     add_before(out, next, clock, tried)
 }
 
-#[tactic(auto, using(words::proofs::Runs::rows_none, words::proofs::Runs::rows_one, words::proofs::Rows::nothing_laid))]
+#[tactic(auto, using(words::proofs::Runs::few_rows))]
 fn add_spread(out: &mut [u8], at: usize, spread: Option<Gap>) -> usize
     requires { at + 1040 ≤ length out.old }
     ensures { (result ≡ at + length (rows_text (spread_rows spread))) × (out.new ≡ laid_at at (rows_text (spread_rows spread)) out.old) × (result ≤ at + 1040) }
@@ -692,6 +695,7 @@ fn add_spread(out: &mut [u8], at: usize, spread: Option<Gap>) -> usize
     }
 }
 
+#[tactic(auto, using(words::proofs::Runs::more_rows))]
 fn add_unpriced(out: &mut [u8], at: usize, side: Side, looked: Looked) -> usize
     requires { at + 2080 ≤ length out.old }
     ensures { (result ≡ at + length (rows_text (unpriced_rows side looked))) × (out.new ≡ laid_at at (rows_text (unpriced_rows side looked)) out.old) × (result ≤ at + 2080) }
@@ -700,7 +704,7 @@ fn add_unpriced(out: &mut [u8], at: usize, side: Side, looked: Looked) -> usize
     words::add_row(out, next, unpriced_row(side, looked))
 }
 
-#[tactic(auto, using(words::proofs::Runs::rows_none, words::proofs::Runs::rows_one, words::proofs::Rows::nothing_laid))]
+#[tactic(auto, using(words::proofs::Runs::few_rows))]
 fn add_counted(out: &mut [u8], at: usize, limit: Limit) -> usize
     requires { at + 1040 ≤ length out.old }
     ensures { (result ≡ at + length (rows_text (counted_rows limit))) × (out.new ≡ laid_at at (rows_text (counted_rows limit)) out.old) × (result ≤ at + 1040) }
@@ -711,7 +715,7 @@ fn add_counted(out: &mut [u8], at: usize, limit: Limit) -> usize
     at
 }
 
-#[tactic(auto, using(words::proofs::Runs::rows_none, words::proofs::Runs::rows_one, words::proofs::Rows::nothing_laid))]
+#[tactic(auto, using(words::proofs::Runs::few_rows))]
 fn add_acceptance(out: &mut [u8], at: usize, far: Far) -> usize
     requires { at + 1040 ≤ length out.old }
     ensures { (result ≡ at + length (rows_text (acceptance_rows far))) × (out.new ≡ laid_at at (rows_text (acceptance_rows far)) out.old) × (result ≤ at + 1040) }
@@ -722,6 +726,7 @@ fn add_acceptance(out: &mut [u8], at: usize, far: Far) -> usize
     at
 }
 
+#[tactic(auto, using(words::proofs::Runs::more_rows))]
 fn add_far(out: &mut [u8], at: usize, side: Side, tp: Mills, far: Far) -> usize
     requires { at + 4160 ≤ length out.old }
     ensures { (result ≡ at + length (rows_text (far_rows side tp far))) × (out.new ≡ laid_at at (rows_text (far_rows side tp far)) out.old) × (result ≤ at + 4160) }
@@ -732,6 +737,7 @@ fn add_far(out: &mut [u8], at: usize, side: Side, tp: Mills, far: Far) -> usize
     add_acceptance(out, sold, far)
 }
 
+#[tactic(auto, using(words::proofs::Runs::more_rows))]
 fn add_even(out: &mut [u8], at: usize, tp: Mills, even: Even) -> usize
     requires { at + 2080 ≤ length out.old }
     ensures { (result ≡ at + length (rows_text (even_rows tp even))) × (out.new ≡ laid_at at (rows_text (even_rows tp even)) out.old) × (result ≤ at + 2080) }
@@ -741,7 +747,7 @@ fn add_even(out: &mut [u8], at: usize, tp: Mills, even: Even) -> usize
     words::add_row(out, next, limit_row(rule, even.tested))
 }
 
-#[tactic(auto, using(words::proofs::Runs::rows_none, words::proofs::Runs::rows_one, words::proofs::Rows::nothing_laid))]
+#[tactic(auto, using(words::proofs::Runs::few_rows))]
 fn add_act(out: &mut [u8], at: usize, side: Side, tp: Mills, acting: Acting) -> usize
     requires { at + 4160 ≤ length out.old }
     ensures { (result ≡ at + length (rows_text (act_rows side tp acting))) × (out.new ≡ laid_at at (rows_text (act_rows side tp acting)) out.old) × (result ≤ at + 4160) }
@@ -753,7 +759,7 @@ fn add_act(out: &mut [u8], at: usize, side: Side, tp: Mills, acting: Acting) -> 
     }
 }
 
-#[tactic(auto, using(words::proofs::Runs::rows_none, words::proofs::Runs::rows_one, words::proofs::Rows::nothing_laid))]
+#[tactic(auto, using(words::proofs::Runs::few_rows))]
 fn add_end(out: &mut [u8], at: usize, side: Side, tp: Mills, end: End) -> usize
     requires { at + 4160 ≤ length out.old }
     ensures { (result ≡ at + length (rows_text (end_rows side tp end))) × (out.new ≡ laid_at at (rows_text (end_rows side tp end)) out.old) × (result ≤ at + 4160) }
@@ -764,6 +770,7 @@ fn add_end(out: &mut [u8], at: usize, side: Side, tp: Mills, end: End) -> usize
     }
 }
 
+#[tactic(auto, using(words::proofs::Runs::more_rows))]
 fn add_settled(out: &mut [u8], at: usize, side: Side, tp: Mills, settled: Settled) -> usize
     requires { at + 5200 ≤ length out.old }
     ensures { (result ≡ at + length (rows_text (settled_rows side tp settled))) × (out.new ≡ laid_at at (rows_text (settled_rows side tp settled)) out.old) × (result ≤ at + 5200) }
@@ -772,7 +779,7 @@ fn add_settled(out: &mut [u8], at: usize, side: Side, tp: Mills, settled: Settle
     add_end(out, next, side, tp, settled.end)
 }
 
-#[tactic(auto, using(words::proofs::Runs::rows_none, words::proofs::Runs::rows_one, words::proofs::Rows::nothing_laid))]
+#[tactic(auto, using(words::proofs::Runs::few_rows))]
 fn add_after(out: &mut [u8], at: usize, side: Side, tp: Mills, after: Option<Settled>) -> usize
     requires { at + 5200 ≤ length out.old }
     ensures { (result ≡ at + length (rows_text (after_rows side tp after))) × (out.new ≡ laid_at at (rows_text (after_rows side tp after)) out.old) × (result ≤ at + 5200) }
@@ -783,19 +790,19 @@ fn add_after(out: &mut [u8], at: usize, side: Side, tp: Mills, after: Option<Set
     }
 }
 
+#[tactic(auto, using(words::proofs::Runs::more_rows), unfolding(crate::specs::Explained::judged_rows))]
 fn add_judged(out: &mut [u8], at: usize, side: Side, judged: Judged) -> usize
     requires { at + 8320 ≤ length out.old }
     ensures { (result ≡ at + length (rows_text (judged_rows side judged))) × (out.new ≡ laid_at at (rows_text (judged_rows side judged)) out.old) × (result ≤ at + 8320) }
 {
-    let source = judged.source;
     let quoted = add_spread(out, at, judged.looked.spread);
-    let row = source_row(side, judged.looked, source, source.origin);
+    let row = source_row(side, judged.looked, judged.source);
     let priced = words::add_row(out, quoted, row);
     let tested = words::add_row(out, priced, error_row(side, judged.way, judged.off));
-    add_after(out, tested, side, source.price, judged.after)
+    add_after(out, tested, side, judged.source.price, judged.after)
 }
 
-#[tactic(auto, using(words::proofs::Runs::rows_none, words::proofs::Runs::rows_one, words::proofs::Rows::nothing_laid))]
+#[tactic(auto, using(words::proofs::Runs::few_rows))]
 fn add_reached(out: &mut [u8], at: usize, clock: Clock, reached: Reached) -> usize
     requires { at + 8320 ≤ length out.old }
     ensures { (result ≡ at + length (rows_text (reached_rows clock reached))) × (out.new ≡ laid_at at (rows_text (reached_rows clock reached)) out.old) × (result ≤ at + 8320) }
@@ -809,6 +816,7 @@ fn add_reached(out: &mut [u8], at: usize, clock: Clock, reached: Reached) -> usi
 }
 
 // The rows of a ruled case: the head, each step that was reached, the contracts.
+#[tactic(auto, using(words::proofs::Runs::more_rows), unfolding(crate::specs::Explained::ruled_rows))]
 pub fn add_steps(out: &mut [u8], at: usize, steps: Steps, n: Figures) -> usize
     requires { at + 14560 ≤ length out.old }
     ensures { (result ≡ at + length (rows_text (ruled_rows steps n))) × (out.new ≡ laid_at at (rows_text (ruled_rows steps n)) out.old) × (result ≤ at + 14560) }

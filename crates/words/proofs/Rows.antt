@@ -4,16 +4,23 @@ use mathlib.Core.Path.{◌≡◌, refl, ap}
 use mathlib.Core.List.{List, [], ◌∷◌, ◌++◌, append_assoc, append-nil}
 use native.Mathlib.Numerals.{add-one}
 use native.Mathlib.Omega.{arith}
-use lib.ListN.{length, get_or, take, take-append-drop}
+use lib.ListN.{length, get_or, take, take-append-drop, length-append}
 use lib.Seq.{length-take-le, take-suc}
 use Rattle.wire.specs.Laid.{laid}
 use Rattle.text.specs.Text.{laid_at}
+use Rattle.text.proofs.Placed.{placed_next}
 use Rattle.words.specs.Words.{Piece}
 use Rattle.words.specs.Pieces.{piece_text, row_text}
 
 pub nothing_laid : (at : ℕ) (l : List ℕ) → at ≤ length l → l ≡ laid_at at [] l
 unfolding laid_at laid
 nothing_laid at l h = rw (append-nil, length-take-le at l h, take-append-drop)
+
+pub laid_twice : (at : ℕ) (w v l : List ℕ) → at ≤ length l → laid_at (at + length w) v (laid_at at w l) ≡ laid_at at (w ++ v) l
+laid_twice at w v l h = (placed_next at _ _ w v l _ _ h refl refl refl refl).1
+
+-- what a run of appends is proved by
+pub ruleset written = (nothing_laid, laid_twice, append_assoc, append-nil, length-append)
 
 row_append : (ps qs : List Piece) → row_text (ps ++ qs) ≡ row_text ps ++ row_text qs
 unfolding row_text

@@ -3,18 +3,13 @@ use Prim.Native.Nat.{ℕ, ◌+◌, ◌≤◌}
 use mathlib.Core.Path.{◌≡◌, refl, ap}
 use mathlib.Core.List.{List, [], ◌∷◌, ◌++◌, append_assoc, append-nil}
 use native.Mathlib.Omega.{arith}
-use lib.ListN.{length, take-append-drop}
-use lib.Seq.{length-take-le}
-use Rattle.wire.specs.Laid.{laid}
+use lib.ListN.{length}
 use Rattle.text.specs.Text.{laid_at}
 use Rattle.text.proofs.Placed.{placed_next}
 use Rattle.words.specs.Pieces.{row_text}
 use Rattle.words.specs.Words.{Piece}
 use Rattle.words.specs.Rows.{rows_text}
-
-nothing_laid : (at : ℕ) (l : List ℕ) → at ≤ length l → l ≡ laid_at at [] l
-unfolding laid_at laid
-nothing_laid at l h = rw (append-nil, length-take-le at l h, take-append-drop)
+use Rattle.words.proofs.Rows.{nothing_laid, written}
 
 pub rows_append : (rs qs : List (List Piece)) → rows_text (rs ++ qs) ≡ rows_text rs ++ rows_text qs
 unfolding rows_text
@@ -28,6 +23,15 @@ rows_none = refl
 pub rows_one : (r : List Piece) → rows_text (r ∷ []) ≡ row_text r
 unfolding rows_text
 rows_one r = append-nil (row_text r)
+
+pub rows_cons : (r : List Piece) (rs : List (List Piece)) → rows_text (r ∷ rs) ≡ row_text r ++ rows_text rs
+unfolding rows_text
+rows_cons r rs = refl
+
+-- what a step that writes no row, or one, is proved by; one that writes several
+pub ruleset few_rows = (rows_none, rows_one, nothing_laid)
+
+pub ruleset more_rows = (rows_none, rows_cons, rows_append, written)
 
 -- these rows stand from the place on: the next place, and what the buffer holds
 abbrev pub Stand : ℕ → List ℕ → List (List Piece) → ℕ → List ℕ → Type 0

@@ -416,6 +416,7 @@ fn add_grouped(out: &mut [u8], at: usize, groups: u32, n: u32) -> usize
 }
 
 // A number of four bytes has at most three.
+#[tactic(auto, using(crate::proofs::Lengths::count_most), unfolding(crate::specs::Grouped::grouped_text))]
 fn add_count(out: &mut [u8], at: usize, n: u32) -> usize
     requires { at + 14 ≤ length out.old }
     ensures { (result ≡ at + length (grouped_text n)) × (out.new ≡ laid_at at (grouped_text n) out.old) × (result ≤ at + 14) }
@@ -461,6 +462,7 @@ fn agreement_words(agreement: Agreement) -> &'static [u8]
     }
 }
 
+#[tactic(auto, using(crate::proofs::Rows::written), unfolding(crate::specs::Values::seconds_text))]
 fn add_lapse(out: &mut [u8], at: usize, lapse: Option<Seconds>) -> usize
     requires { at + 16 ≤ length out.old }
     ensures { (result ≡ at + length (lapse_text lapse)) × (out.new ≡ laid_at at (lapse_text lapse) out.old) × (result ≤ at + 16) }
@@ -494,6 +496,7 @@ fn add_value(out: &mut [u8], at: usize, v: Value) -> usize
 
 // ---- a place
 
+#[tactic(auto, using(crate::proofs::Rows::written), unfolding(crate::specs::Values::byte_text))]
 fn add_one_byte(out: &mut [u8], at: usize, first: u8) -> usize
     requires { at + 26 ≤ length out.old }
     ensures { (result ≡ at + length (byte_text first)) × (out.new ≡ laid_at at (byte_text first) out.old) × (result ≤ at + 26) }
@@ -504,6 +507,7 @@ fn add_one_byte(out: &mut [u8], at: usize, first: u8) -> usize
 }
 
 // The decimals of a place are of at most three digits, which is why the second fits.
+#[tactic(auto, using(crate::proofs::Rows::written, crate::proofs::Lengths::three_digits), unfolding(crate::specs::Values::bytes_text))]
 fn add_bytes(out: &mut [u8], at: usize, first: u8, width: u8) -> usize
     requires { (at + 26 ≤ length out.old) × (1 ≤ width) }
     ensures { (result ≡ at + length (bytes_text first width)) × (out.new ≡ laid_at at (bytes_text first width) out.old) × (result ≤ at + 26) }
@@ -529,6 +533,7 @@ fn add_place(out: &mut [u8], at: usize, place: Place) -> usize
 
 // ---- a piece, and a row of them
 
+#[tactic(auto, using(crate::proofs::Rows::written), unfolding(crate::specs::Pieces::piece_text))]
 fn add_piece(out: &mut [u8], at: usize, p: Piece) -> usize
     requires { at + 104 ≤ length out.old }
     ensures { (result ≡ at + length (piece_text p)) × (out.new ≡ laid_at at (piece_text p) out.old) × (result ≤ at + 104) }
@@ -586,6 +591,7 @@ pub fn found(phrase: u8, value: Value, place: Place) -> Piece
 // ---- what stands before the rows of a case
 
 // `#` joined to the index, and a space.
+#[tactic(auto, using(crate::proofs::Rows::written), unfolding(crate::specs::Rows::index_text))]
 pub fn add_index(out: &mut [u8], at: usize, index: u32) -> usize
     requires { at + 12 ≤ length out.old }
     ensures { (result ≡ at + length (index_text index)) × (out.new ≡ laid_at at (index_text index) out.old) × (result ≤ at + 12) }
