@@ -28,9 +28,10 @@ pub rows_cons : (r : List Piece) (rs : List (List Piece)) → rows_text (r ∷ r
 unfolding rows_text
 rows_cons r rs = refl
 
--- what a step that writes no row, or one, is proved by; one that writes several
+-- what a step that writes no row, or one, is proved by
 pub ruleset few_rows = (rows_none, rows_one, nothing_laid)
 
+-- and one that writes several
 pub ruleset more_rows = (rows_none, rows_cons, rows_append, written)
 
 -- these rows stand from the place on: the next place, and what the buffer holds

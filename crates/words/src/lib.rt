@@ -376,7 +376,6 @@ fn start_of(n: usize) -> usize
 }
 
 // The n-th phrase; nothing where there is none.
-
 fn add_phrase(out: &mut [u8], at: usize, n: u8) -> usize
     requires { at + 56 ≤ length out.old }
     ensures { (result ≡ at + length (phrase_of n)) × (out.new ≡ laid_at at (phrase_of n) out.old) × (result ≤ at + 56) }
@@ -397,9 +396,9 @@ fn group_of(n: u32) -> [u8; 4]
 {
     [
         b',',
-        48 + (n / 100 % 10) as u8,
-        48 + (n / 10 % 10) as u8,
-        48 + (n % 10) as u8,
+        b'0' + (n / 100 % 10) as u8,
+        b'0' + (n / 10 % 10) as u8,
+        b'0' + (n % 10) as u8,
     ]
 }
 
