@@ -6,7 +6,6 @@
 ghost use Rattle.std.specs.Prelude.{◌≡◌, ◌+◌, ◌-◌, ◌≤◌, length, [], ◌∷◌, ◌++◌, replicate};
 ghost use Rattle.text.specs.Text.{laid_at};
 ghost use Rattle.wire.specs.Tests.{pick};
-ghost use Rattle.parties.specs.Parties.{by_side};
 ghost use Rattle.step_lines.specs.Words.{On};
 ghost use Rattle.words.specs.Pieces.{bytes_at, found, blank};
 ghost use Rattle.words.specs.Rows.{rows_text};
@@ -51,38 +50,28 @@ fn passed(t: Seconds) -> Value
     Value::Lapse(Some(t))
 }
 
-// The first of two where the side is buy, the second where it is sell.
-fn by_side<T: Copy>(side: Side, a: T, b: T) -> T
-    ensures { result ≡ by_side side a b }
-{
-    match side {
-        Side::Buy => a,
-        Side::Sell => b,
-    }
-}
-
 fn kind_place(side: Side) -> Place
     ensures { result ≡ kind_place side }
 {
-    by_side(side, words::bytes_at(64, 1), words::bytes_at(65, 1))
+    parties::by_side(side, words::bytes_at(64, 1), words::bytes_at(65, 1))
 }
 
 fn limit_place(side: Side) -> Place
     ensures { result ≡ limit_place side }
 {
-    by_side(side, words::bytes_at(52, 4), words::bytes_at(60, 4))
+    parties::by_side(side, words::bytes_at(52, 4), words::bytes_at(60, 4))
 }
 
 fn quote_place(side: Side) -> Place
     ensures { result ≡ quote_place side }
 {
-    by_side(side, words::bytes_at(24, 4), words::bytes_at(20, 4))
+    parties::by_side(side, words::bytes_at(24, 4), words::bytes_at(20, 4))
 }
 
 fn size_place(side: Side) -> Place
     ensures { result ≡ size_place side }
 {
-    by_side(side, words::bytes_at(32, 4), words::bytes_at(28, 4))
+    parties::by_side(side, words::bytes_at(32, 4), words::bytes_at(28, 4))
 }
 
 // The first of two phrases where the test holds.
@@ -285,7 +274,7 @@ fn quote_is(side: Side, looked: Looked) -> Piece
     ensures { result ≡ quote_is side looked }
 {
     words::found(
-        by_side(side, words::OFFER_IS, words::BID_IS),
+        parties::by_side(side, words::OFFER_IS, words::BID_IS),
         Value::Dollars(looked.quote),
         quote_place(side),
     )
@@ -298,7 +287,7 @@ fn source_row(side: Side, looked: Looked, source: Source) -> [Piece; 10]
     match source.origin {
         Origin::Quoted(_) => row_of(&[
             words::found(words::TP, money(source.price), quote_place(side)),
-            words::said(by_side(side, words::THE_OFFER, words::THE_BID)),
+            words::said(parties::by_side(side, words::THE_OFFER, words::THE_BID)),
         ]),
         Origin::Official => row_of(&[
             words::found(words::TP, money(source.price), words::bytes_at(40, 4)),
@@ -353,12 +342,12 @@ fn error_row(side: Side, way: Way, off: Off) -> [Piece; 10]
         words::found(
             words::ERROR,
             money(off.high),
-            by_side(side, execution, nowhere),
+            parties::by_side(side, execution, nowhere),
         ),
         words::found(
             either(off.wrong, words::IS_AT_LEAST, words::IS_UNDER),
             money(off.low),
-            by_side(side, nowhere, execution),
+            parties::by_side(side, nowhere, execution),
         ),
         words::told(words::PLUS, money(off.minimum)),
         words::told(words::EQUALS, money(off.reach)),
@@ -445,7 +434,7 @@ fn agreement_row(settled: Settled) -> [Piece; 10]
 fn move_words(side: Side) -> u8
     ensures { result ≡ move_words side }
 {
-    by_side(side, words::PLUS, words::MINUS)
+    parties::by_side(side, words::PLUS, words::MINUS)
 }
 
 #[tactic(auto, unfolding(crate::specs::Act::near_row, crate::specs::Act::undone_row))]
@@ -513,7 +502,7 @@ fn limit_row(rule: u8, limit: Limit) -> [Piece; 10]
 {
     row_of(&[
         words::found(
-            by_side(limit.side, words::LIMIT_BUYER, words::LIMIT_SELLER),
+            parties::by_side(limit.side, words::LIMIT_BUYER, words::LIMIT_SELLER),
             Value::Who(limit.kind),
             kind_place(limit.side),
         ),

@@ -4,7 +4,6 @@
 #![tactic(auto)]
 
 ghost use Rattle.std.specs.Prelude.{◌≡◌};
-ghost use Rattle.parties.specs.Parties.{by_side};
 ghost use Rattle.steps.specs.Tried.{clock_of, obvious_why, opening_why, catastrophic_why, tried_from, tried_of, open_of};
 ghost use Rattle.steps.specs.Found.{gap_of, spread_from, looked_of, apart, floor_of, error_of, limit_of, obvious_step, opening_step, catastrophic_step, act_step_of, ignored_why};
 ghost use Rattle.steps.specs.Steps.{end_of, settled_of, judged_of, reached_on, reached_if, steps_of};
@@ -289,16 +288,6 @@ fn find_clock(executed: Seconds, request: Request, kind: Kind) -> Clock
     }
 }
 
-// The first of two where the side is buy, the second where it is sell.
-fn by_side<T: Copy>(side: Side, a: T, b: T) -> T
-    ensures { result ≡ by_side side a b }
-{
-    match side {
-        Side::Buy => a,
-        Side::Sell => b,
-    }
-}
-
 // ---- the quotes
 
 // The sum is in 64 bits, where it can't wrap; `reach` is the largest number where four bytes don't hold it.
@@ -327,7 +316,7 @@ fn look(form: Form, side: Side, market: Market) -> Looked
     ensures { result ≡ looked_of form side market }
 {
     Looked {
-        quote: by_side(side, market.offer.price, market.bid.price),
+        quote: parties::by_side(side, market.offer.price, market.bid.price),
         official: market.official,
         spread: find_spread(
             forms::differential_of(form),
@@ -368,8 +357,8 @@ fn find_off(side: Side, execution: Mills, tp: Mills, way: Way) -> Off
 {
     let row = bands::band_of(tp);
     let minimum = act::minimum_of(way, row);
-    let low = by_side(side, tp, execution);
-    let high = by_side(side, execution, tp);
+    let low = parties::by_side(side, tp, execution);
+    let high = parties::by_side(side, execution, tp);
     let reach = bands::moved(Side::Buy, low, minimum);
     Off {
         row,
@@ -419,8 +408,8 @@ fn opening_step(side: Side, buyer: Party, seller: Party, tp: Mills) -> Even
 {
     let on = act::opening_tested(side, buyer.kind, seller.kind);
     Even {
-        maker: parties::is_maker(parties::other_kind(side, buyer.kind, seller.kind)),
-        tested: limit_of(on, by_side(on, buyer, seller), true, tp),
+        maker: parties::is_maker(parties::by_side(side, seller.kind, buyer.kind)),
+        tested: limit_of(on, parties::by_side(on, buyer, seller), true, tp),
     }
 }
 
@@ -562,7 +551,7 @@ fn reach(f: Facts, found: Option<Way>) -> Reached
 pub fn find_steps(f: Facts) -> Steps
     ensures { result ≡ steps_of f }
 {
-    let kind = parties::kind_in_error(f.request.side, f.buyer.kind, f.seller.kind);
+    let kind = parties::by_side(f.request.side, f.buyer.kind, f.seller.kind);
     let tried = find_tried(f.trade.executed, f.request, kind);
     Steps {
         trade: f.trade,
