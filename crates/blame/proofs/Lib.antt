@@ -4,3 +4,4 @@ pub mod Row
 pub mod Numbers
 pub mod Order
 pub mod Exact
+pub mod Found

@@ -8,6 +8,8 @@ use native.Mathlib.Omega.{arith}
 use lib.ListN.{get_or}
 use lib.Dec.{leb, ltb, eqb, leb-zero}
 use borrow.Author.Tests.{leb-true, leb-false, ltb-true, ltb-false, eqb-true, le-leb, lt-leb, eq-eqb}
+use Rattle.std.specs.Ordering.{is_le, nat_cmp}
+use Rattle.std.proofs.lemmas.Bool.Decides.{nat_tests}
 use Rattle.wire.specs.Numbers.{number_at}
 use Rattle.wire.specs.Tests.{in_range}
 use Rattle.wire.proofs.Tests.{range_in, range_low, range_high, range_ends}
@@ -24,6 +26,10 @@ not_below a b = by_test (ltb a b) refl where
   by_test : (t : Bool) → ltb a b ≡ t → not t ≡ leb b a
   by_test true h = sym (lt-leb b a (ltb-true a b h))
   by_test false h = sym (le-leb b a (ltb-false a b h))
+
+-- the comparison's test
+pub le_test : (a b : ℕ) → is_le (nat_cmp a b) ≡ leb a b
+le_test a b = grind (arith, nat_tests)
 
 -- one number
 pub exactly : (k n : ℕ) → in_range k k n ≡ eqb n k

@@ -8,4 +8,4 @@ returns-then-s-lt92 c = simp (lt-ltb _ _ c.if-s-lt92.true)
 
 pub returns : goal.returns
 unfolding form_of
-returns c = simp (le-ltb _ _ c.if-s-lt92.false, c.keep_money.ensures, c.within.ensures)
+returns c = simp (le-ltb _ _ c.if-s-lt92.false, c.first_bad.ensures, c.money_at.ensures, c.within.ensures)
