@@ -6,48 +6,26 @@ ghost use Rattle.std.specs.Prelude.{◌≡◌, ◌+◌, ◌≤◌, length};
 ghost use Rattle.text.specs.Text.{laid_at};
 ghost use Rattle.phrases.specs.Phrases.{refusal_words, refusal_text};
 
-// What a number of a case stands for: 1 to 9.
-fn add_case_words(out: &mut [u8], at: usize, number: u8) -> usize
-    requires { (at + 60 ≤ length out.old) × (number ≤ 9) }
-    ensures { (result ≡ at + length (refusal_words number)) × (out.new ≡ laid_at at (refusal_words number) out.old) × (result ≤ at + 60) }
+// What a number stands for: 1 to 9 of a case, 10 of a sheet, 20 to 23 of quotes; no words for a number that nobody gives.
+fn words_of(number: u8) -> &'static [u8]
+    ensures { result.now ≡ refusal_words number }
 {
     match number {
-        1 => text::add_word(out, at, b"the case is neither 88 nor 92 bytes long"),
-        2 => text::add_word(out, at, b"its head is not that of a case of its length"),
-        3 => text::add_word(out, at, b"a zero byte or a coded byte is wrong"),
-        4 => text::add_word(out, at, b"a member code is not of A to Z and 0 to 9"),
-        5 => text::add_word(
-            out,
-            at,
-            b"a price or the differential is out of range, or wrongly none",
-        ),
-        6 => text::add_word(out, at, b"contracts or a size are out of range"),
-        7 => text::add_word(
-            out,
-            at,
-            b"a time is out of range, or the filing precedes the execution",
-        ),
-        8 => text::add_word(out, at, b"the execution is past a limit"),
-        9 => text::add_word(out, at, b"the agreement's fields do not fit each other"),
-        _ => text::add_word(out, at, b""),
-    }
-}
-
-// What any number stands for: those of a case, of a sheet and of quotes.
-fn add_words(out: &mut [u8], at: usize, number: u8) -> usize
-    requires { at + 60 ≤ length out.old }
-    ensures { (result ≡ at + length (refusal_words number)) × (out.new ≡ laid_at at (refusal_words number) out.old) × (result ≤ at + 60) }
-{
-    if number <= 9 {
-        return add_case_words(out, at, number);
-    }
-    match number {
-        10 => text::add_word(out, at, b"no row of whole cases, or more than 52,800 bytes"),
-        20 => text::add_word(out, at, b"no whole number of quotes, or more than 2,000"),
-        21 => text::add_word(out, at, b"a quote has a bad field"),
-        22 => text::add_word(out, at, b"the times of the quotes go back"),
-        23 => text::add_word(out, at, b"the trade time is above 23:59:59"),
-        _ => text::add_word(out, at, b""),
+        1 => b"the case is neither 88 nor 92 bytes long",
+        2 => b"its head is not that of a case of its length",
+        3 => b"a zero byte or a coded byte is wrong",
+        4 => b"a member code is not of A to Z and 0 to 9",
+        5 => b"a price or the differential is out of range, or wrongly none",
+        6 => b"contracts or a size are out of range",
+        7 => b"a time is out of range, or the filing precedes the execution",
+        8 => b"the execution is past a limit",
+        9 => b"the agreement's fields do not fit each other",
+        10 => b"no row of whole cases, or more than 52,800 bytes",
+        20 => b"no whole number of quotes, or more than 2,000",
+        21 => b"a quote has a bad field",
+        22 => b"the times of the quotes go back",
+        23 => b"the trade time is above 23:59:59",
+        _ => b"",
     }
 }
 
@@ -59,6 +37,6 @@ pub fn add_refusal(out: &mut [u8], at: usize, number: u8) -> usize
     let word = text::add_word(out, at, b"REFUSED ");
     let figures = text::add_decimal(out, word, number as u32);
     let colon = text::add_word(out, figures, b": ");
-    let words = add_words(out, colon, number);
+    let words = text::add_word(out, colon, words_of(number));
     text::add_byte(out, words, b'\n')
 }

@@ -1,16 +1,14 @@
--- The laws of digits read one by one, and of two digits read together.
+-- The laws of digits read one by one.
 use Prim.Native.Nat.{ℕ, ◌+◌, ◌-◌, ◌*◌, ◌≤◌, ◌<◌, min}
 use mathlib.Core.Path.{◌≡◌, refl, sym, ap, ◌∙◌}
-use mathlib.Core.Bool.{Bool, true, false, ◌&&◌, ◌||◌, true≢false}
+use mathlib.Core.Bool.{true, false}
 use mathlib.Core.List.{List, [], ◌∷◌}
 use native.Mathlib.Numerals.{add-one}
 use native.Mathlib.Omega.{arith}
 use lib.ListN.{length, get_or, drop, drop_of_length-le}
 use lib.Seq.{drop-cons}
-use lib.Dec.{leb, ltb}
-use borrow.Author.Tests.{le-leb, leb-true, ltb-true, ltb-false}
+use borrow.Author.Tests.{le-leb}
 use Rattle.wire.specs.Tests.{pick, in_range}
-use Rattle.wire.proofs.Tests.{range_in, range_low, range_high, both_true}
 use Rattle.text.specs.Text.{all_digits, value_from}
 use Rattle.spelling.specs.Words.{Typed, Some, None}
 use Rattle.spelling.specs.Times.{count_in}
@@ -44,33 +42,11 @@ count_whole (b ∷ w) h = rw (le-leb 1 (length (b ∷ w)) (omega arith))
 pub count_end : (w : List ℕ) (i n : ℕ) → length w ≤ i → n ≤ top → Some n ≡ count_from n (drop i w)
 count_end w i n h k = rw (drop_of_length-le w {i = i} h) (ap Some (let e : n ≡ min n top = omega arith in e))
 
--- the test of one byte, as the code asks it: below `0` or above `9`
-off_range : (b : ℕ) → (ltb b 48 || ltb 57 b) ≡ true → in_range 48 57 b ≡ false
-off_range b e = by_test (ltb b 48) refl e where
-  by_test : (t : Bool) → ltb b 48 ≡ t → (t || ltb 57 b) ≡ true → in_range 48 57 b ≡ false
-  by_test true l k = range_low 48 57 b (ltb-true b 48 l)
-  by_test false l k = range_high 48 57 b (ltb-true 57 b k)
-
-pub on_range : (b : ℕ) → (ltb b 48 || ltb 57 b) ≡ false → (48 ≤ b) × (b ≤ 57)
-on_range b e = by_test (ltb b 48) refl e where
-  by_test : (t : Bool) → ltb b 48 ≡ t → (t || ltb 57 b) ≡ false → (48 ≤ b) × (b ≤ 57)
-  by_test true l k = absurd (true≢false k)
-  by_test false l k = (ltb-false b 48 l, ltb-false 57 b k)
-
 -- one byte on: a digit is pushed, another byte ends it
 module _ (w : List ℕ) (i n : ℕ) (h : i < length w) where
-  pub count_on : (ltb (get_or w i 0) 48 || ltb 57 (get_or w i 0)) ≡ false → count_from (min (n * 10 + (get_or w i 0 - 48)) top) (drop (i + 1) w) ≡ count_from n (drop i w)
-  count_on e =
-      let b = on_range (get_or w i 0) e in
-      rw (drop-cons w i 0 h, range_in 48 57 (get_or w i 0) b.0 (omega arith), add-one, saturated)
+  pub count_on : in_range 48 57 (get_or w i 0) ≡ true
+      → count_from (min (n * 10 + (get_or w i 0 - 48)) top) (drop (i + 1) w) ≡ count_from n (drop i w)
+  count_on e = rw (drop-cons w i 0 h, e, add-one, saturated)
 
-  pub count_off : (ltb (get_or w i 0) 48 || ltb 57 (get_or w i 0)) ≡ true → None ≡ count_from n (drop i w)
-  count_off e = rw (drop-cons w i 0 h, off_range (get_or w i 0) e)
-
--- ---- two digits
-pub two_in : (a b : ℕ) → ((leb 48 a && leb a 57) && (leb 48 b && leb b 57)) ≡ true → (48 ≤ a) × (a ≤ 57) × (48 ≤ b) × (b ≤ 57)
-two_in a b e =
-    let t = both_true (leb 48 a && leb a 57) (leb 48 b && leb b 57) e in
-    let x = both_true (leb 48 a) (leb a 57) t.0 in
-    let y = both_true (leb 48 b) (leb b 57) t.1 in
-    (leb-true 48 a x.0, leb-true a 57 x.1, leb-true 48 b y.0, leb-true b 57 y.1)
+  pub count_off : in_range 48 57 (get_or w i 0) ≡ false → None ≡ count_from n (drop i w)
+  count_off e = rw (drop-cons w i 0 h, e)

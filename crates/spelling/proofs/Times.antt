@@ -1,29 +1,32 @@
 -- The laws of times: which reading a word gets, the length of a time spelt, and that it is read again as what it was.
 use Prim.Native.Nat.{ℕ, ◌+◌, ◌-◌, ◌*◌, ◌/◌, ◌%◌, ◌≤◌}
 use mathlib.Core.Path.{◌≡◌, refl, ap, ◌∙◌}
-use mathlib.Core.Bool.{true, false, ◌&&◌}
+use mathlib.Core.Bool.{and-false}
 use mathlib.Core.List.{List}
 use native.Mathlib.Nat.{div-div-eq-div-mul}
 use native.Mathlib.Omega.{arith}
 use lib.ListN.{length, get_or}
-use lib.Dec.{eqb}
 use borrow.Author.Tests.{le-leb, eq-eqb, ne_eqb}
 use Rattle.wire.proofs.Tests.{range_in}
 use Rattle.spelling.specs.Words.{Some}
 use Rattle.spelling.specs.Times.{two_digits, clock_of, clock_in, count_in, has_colons, time_in, tens, ones, clock_text, time_text}
 
 -- ---- which reading
-pub as_clock : (w : List ℕ) → length w ≡ 8 → (eqb (get_or w 2 0) 58 && eqb (get_or w 5 0) 58) ≡ true → clock_in w ≡ time_in w
+pub as_clock : (w : List ℕ) → length w ≡ 8 → get_or w 2 0 ≡ 58 → get_or w 5 0 ≡ 58 → clock_in w ≡ time_in w
 unfolding time_in has_colons
-as_clock w h e = simp (eq-eqb (length w) 8 h, e)
-
-pub not_clock : (w : List ℕ) → length w ≡ 8 → (eqb (get_or w 2 0) 58 && eqb (get_or w 5 0) 58) ≡ false → count_in w ≡ time_in w
-unfolding time_in has_colons
-not_clock w h e = simp (eq-eqb (length w) 8 h, e)
+as_clock w h e f = simp (eq-eqb (length w) 8 h, eq-eqb (get_or w 2 0) 58 e, eq-eqb (get_or w 5 0) 58 f)
 
 pub not_eight : (w : List ℕ) → (length w ≡ 8 → ⊥) → count_in w ≡ time_in w
 unfolding time_in has_colons
 not_eight w h = simp (ne_eqb (length w) 8 h)
+
+pub no_first_colon : (w : List ℕ) → (get_or w 2 0 ≡ 58 → ⊥) → count_in w ≡ time_in w
+unfolding time_in has_colons
+no_first_colon w h = simp (ne_eqb (get_or w 2 0) 58 h, and-false)
+
+pub no_second_colon : (w : List ℕ) → (get_or w 5 0 ≡ 58 → ⊥) → count_in w ≡ time_in w
+unfolding time_in has_colons
+no_second_colon w h = simp (ne_eqb (get_or w 5 0) 58 h, and-false)
 
 -- ---- eight bytes
 pub time_length : (n : ℕ) → length (time_text n) ≡ 8
