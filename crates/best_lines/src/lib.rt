@@ -24,17 +24,19 @@ fn add_size(out: &mut [u8], at: usize, n: u32) -> usize
 
 // ---- the best of a half
 
-fn add_name(out: &mut [u8], at: usize, half: Half) -> usize
-    requires { at + 11 ≤ length out.old }
-    ensures { (result ≡ at + length (head_name half)) × (out.new ≡ laid_at at (head_name half) out.old) × (result ≤ at + 11) }
+#[tactic(auto, unfolding(crate::specs::BestLines::head_name))]
+fn head_name(half: Half) -> &'static [u8]
+    ensures name { result.now ≡ head_name half }
+    ensures short { length result.now ≤ 11 }
 {
     match half {
-        Half::Bid => text::add_word(out, at, b"best bid "),
-        Half::Offer => text::add_word(out, at, b"best offer "),
+        Half::Bid => b"best bid ",
+        Half::Offer => b"best offer ",
     }
 }
 
 // None is for nothing.
+#[tactic(auto, unfolding(crate::specs::BestLines::amount_text))]
 fn add_amount(out: &mut [u8], at: usize, price: Option<Mills>, n: u32) -> usize
     requires { at + 16 ≤ length out.old }
     ensures { (result ≡ at + length (amount_text price n)) × (out.new ≡ laid_at at (amount_text price n) out.old) × (result ≤ at + 16) }
@@ -50,10 +52,9 @@ pub fn add_head(out: &mut [u8], at: usize, half: Half, best: Quote) -> usize
     requires { at + 41 ≤ length out.old }
     ensures { (result ≡ at + length (head_line half best)) × (out.new ≡ laid_at at (head_line half best) out.old) × (result ≤ at + 41) }
 {
-    let name = add_name(out, at, half);
-    let price = best.price;
-    let dollars = spelling::add_dollars(out, name, price);
-    add_amount(out, dollars, price, best.size.0)
+    let name = text::add_word(out, at, head_name(half));
+    let dollars = spelling::add_dollars(out, name, best.price);
+    add_amount(out, dollars, best.price, best.size.0)
 }
 
 // ---- an exchange at that price
@@ -61,13 +62,10 @@ pub fn add_head(out: &mut [u8], at: usize, half: Half, best: Quote) -> usize
 fn same(p: Option<Mills>, q: Option<Mills>) -> bool
     ensures { result ≡ same p q }
 {
-    let Some(a) = p else {
-        return false;
-    };
-    let Some(b) = q else {
-        return false;
-    };
-    a.0 == b.0
+    match (p, q) {
+        (Some(a), Some(b)) => a.0 == b.0,
+        _ => false,
+    }
 }
 
 fn add_quote(out: &mut [u8], at: usize, half: Half, q: Posted) -> usize
@@ -78,8 +76,7 @@ fn add_quote(out: &mut [u8], at: usize, half: Half, q: Posted) -> usize
     let number = text::add_decimal(out, word, q.exchange);
     let since = text::add_word(out, number, b" at ");
     let time = spelling::add_time(out, since, q.time.0);
-    let side = halves::half_of(half, q);
-    add_size(out, time, side.size.0)
+    add_size(out, time, halves::half_of(half, q).size.0)
 }
 
 // The line of what an exchange last sent, where it is at the price; else nothing.
@@ -93,13 +90,8 @@ pub fn add_sayer(
     requires { at + 49 ≤ length out.old }
     ensures { (result ≡ at + length (sayer_line half price last)) × (out.new ≡ laid_at at (sayer_line half price last) out.old) × (result ≤ at + 49) }
 {
-    let Some(q) = last else {
-        return at;
-    };
-    let side = halves::half_of(half, q);
-    let p = side.price;
-    if same(price, p) {
-        return add_quote(out, at, half, q);
+    match last {
+        Some(q) if same(price, halves::half_of(half, q).price) => add_quote(out, at, half, q),
+        _ => at,
     }
-    at
 }

@@ -27,11 +27,9 @@ fn add_sayers(
     ensures { (result ≡ at + length (sayers_text half price (earlier time (posted_in quotes.now)))) × (out.new ≡ laid_at at (sayers_text half price (earlier time (posted_in quotes.now))) out.old) × (result ≤ at + 784) }
 {
     let mut next = at;
-    let mut i: u32 = 0;
-    while i < 16 {
+    for i in 0..16 {
         let last = best::last_before(quotes, time, i + 1);
         next = best_lines::add_sayer(out, next, half, price, last);
-        i += 1;
     }
     next
 }
@@ -42,8 +40,7 @@ fn add_born(out: &mut [u8], at: usize, quotes: &[u8], time: u32, half: Half, bes
     ensures { (result ≡ at + length (born_text half best (earlier time (posted_in quotes.now)))) × (out.new ≡ laid_at at (born_text half best (earlier time (posted_in quotes.now))) out.old) × (result ≤ at + 825) }
 {
     let head = best_lines::add_head(out, at, half, best);
-    let price = best.price;
-    add_sayers(out, head, quotes, time, half, price)
+    add_sayers(out, head, quotes, time, half, best.price)
 }
 
 // The first line, at the start of the buffer.
@@ -82,13 +79,12 @@ fn put_found(out: &mut [u8], quotes: &[u8], time: u32) -> usize
 {
     let before = earlier::quotes_before(quotes, time);
     let looked = best::find_best(quotes, time, before);
-    let found = looked.found;
-    if found.refusal != 0 {
-        return put_refused(out, found.refusal);
+    if looked.found.refusal != 0 {
+        return put_refused(out, looked.found.refusal);
     }
     let start = put_before(out, time);
-    let middle = add_born(out, start, quotes, time, Half::Bid, found.bid);
-    let end = add_born(out, middle, quotes, time, Half::Offer, found.offer);
+    let middle = add_born(out, start, quotes, time, Half::Bid, looked.found.bid);
+    let end = add_born(out, middle, quotes, time, Half::Offer, looked.found.offer);
     add_read(out, end, looked.examined as u32, before as u32)
 }
 
@@ -98,8 +94,7 @@ pub fn print_best(quotes: &[u8], time: &[u8], out: &mut [u8; 4096]) -> usize
     ensures value { (result ≡ length (best_text quotes.now (time_in time.now))) × (out.new ≡ laid (best_text quotes.now (time_in time.now)) out.old) }
     ensures upper_bound { (result ≤ length out.new) × (result ≡ length (take result out.new)) }
 {
-    let typed = spelling::read_time(time);
-    match typed {
+    match spelling::read_time(time) {
         Some(t) => put_found(out, quotes, t),
         None => text::add_word(
             out,

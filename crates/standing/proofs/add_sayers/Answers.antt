@@ -1,4 +1,3 @@
-use Prim.Native.Nat.{◌-◌}
 use native.Mathlib.Omega.{arith}
 use Rattle.standing.proofs.Turns.{first, next_turn}
 use Rattle.standing.proofs.add_sayers.Goals as goal
