@@ -51,6 +51,7 @@ fn name_phrase(name: FieldName) -> u8
 // ---- numbers in their measure
 
 // A time of day; what is above 99:59:59 in seconds.
+#[tactic(auto, unfolding(crate::specs::Lines::timed))]
 fn timed(n: u32) -> Value
     ensures { result ≡ timed n }
 {
@@ -58,19 +59,6 @@ fn timed(n: u32) -> Value
         return Value::Time(Seconds(n));
     }
     Value::Lapse(Some(Seconds(n)))
-}
-
-fn measured(unit: Measure, n: u32) -> Value
-    ensures { result ≡ measured unit n }
-{
-    match unit {
-        Measure::Plain => Value::Number(n),
-        Measure::Counted => Value::Count(n),
-        Measure::Money => Value::Dollars(facts::price_of(n)),
-        Measure::Clocked => timed(n),
-        Measure::Lapsed => Value::Lapse(facts::moment_of(n)),
-        Measure::Lettered => Value::Number(n),
-    }
 }
 
 fn bound(unit: Measure, n: u32) -> Value
@@ -86,13 +74,25 @@ fn bound(unit: Measure, n: u32) -> Value
     }
 }
 
+// As a bound is told, but for what is no time of any day, and for the number that stands where a letter is wanted.
+fn measured(unit: Measure, n: u32) -> Value
+    ensures { result ≡ measured unit n }
+{
+    match unit {
+        Measure::Clocked => timed(n),
+        Measure::Lettered => Value::Number(n),
+        Measure::Plain | Measure::Counted | Measure::Money | Measure::Lapsed => bound(unit, n),
+    }
+}
+
 // ---- what is allowed
 
+#[tactic(auto, unfolding(crate::specs::Lines::upper_piece))]
 fn upper_piece(unit: Measure, low: u32, high: u32) -> Piece
     ensures { result ≡ upper_piece unit low high }
 {
     if low == high {
-        return words::said(0);
+        return words::said(words::NOTHING);
     }
     if 4294967294 <= high {
         return words::said(words::OR_MORE);
@@ -100,22 +100,24 @@ fn upper_piece(unit: Measure, low: u32, high: u32) -> Piece
     words::told(words::TO, bound(unit, high))
 }
 
+#[tactic(auto, unfolding(crate::specs::Lines::other_piece))]
 fn other_piece(unit: Measure, low: u32, high: u32) -> Piece
     ensures { result ≡ other_piece unit low high }
 {
     if low <= high {
         return words::told(words::OR, bound(unit, low));
     }
-    words::said(0)
+    words::said(words::NOTHING)
 }
 
+#[tactic(auto, unfolding(crate::specs::Lines::other_upper_piece))]
 fn other_upper_piece(unit: Measure, low: u32, high: u32) -> Piece
     ensures { result ≡ other_upper_piece unit low high }
 {
     if low < high {
         return words::told(words::TO, bound(unit, high));
     }
-    words::said(0)
+    words::said(words::NOTHING)
 }
 
 // ---- what else the bounds came from
@@ -124,8 +126,7 @@ fn price_at(s: &[u8], at: u8) -> Value
     requires { (88 ≤ length s.now) × (at ≤ 84) }
     ensures { result ≡ price_in s.now at }
 {
-    let number = wire::read_u32(s, at as usize);
-    Value::Dollars(facts::price_of(number))
+    Value::Dollars(facts::price_of(wire::read_u32(s, at as usize)))
 }
 
 fn cause_piece(s: &[u8], because: Because) -> Piece
@@ -133,59 +134,52 @@ fn cause_piece(s: &[u8], because: Because) -> Piece
     ensures { result ≡ cause_piece s.now because }
 {
     match because {
-        Because::NoMatter => words::said(0),
+        Because::NoMatter => words::said(words::NOTHING),
         Because::TheCase => words::said(words::CASE_HAS),
         Because::TheBid => words::found(words::BID_IS, price_at(s, 20), words::bytes_at(20, 4)),
         Because::TheOffer => words::found(words::OFFER_IS, price_at(s, 24), words::bytes_at(24, 4)),
-        Because::Executed => {
-            let executed = wire::read_u32(s, 16);
-            words::found(
-                words::EXECUTED_AT,
-                Value::Time(Seconds(executed)),
-                words::bytes_at(16, 4),
-            )
-        }
+        Because::Executed => words::found(
+            words::EXECUTED_AT,
+            Value::Time(Seconds(wire::read_u32(s, 16))),
+            words::bytes_at(16, 4),
+        ),
         Because::TheExecution => {
             words::found(words::EXECUTION_IS, price_at(s, 8), words::bytes_at(8, 4))
         }
-        Because::TheAgreement => {
-            let agreement = codes::agreement_of(s[67]);
-            words::found(
-                words::AGREEMENT_IS,
-                Value::Terms(agreement),
-                words::bytes_at(67, 1),
-            )
-        }
+        Because::TheAgreement => words::found(
+            words::AGREEMENT_IS,
+            Value::Terms(codes::agreement_of(s[67])),
+            words::bytes_at(67, 1),
+        ),
     }
 }
 
+#[tactic(auto, unfolding(crate::specs::Lines::because_piece))]
 fn because_piece(s: &[u8], because: Because) -> Piece
     ensures { result ≡ because_piece s.now because }
 {
     if s.len() < 88 {
-        return words::said(0);
+        return words::said(words::NOTHING);
     }
     cause_piece(s, because)
 }
 
+#[tactic(auto, unfolding(crate::specs::Lines::field_row))]
 fn field_row(s: &[u8], field: Field) -> [Piece; 10]
     ensures { result ≡ field_row s.now field }
 {
-    let name = field.name;
-    let unit = field.unit;
-    let because = field.because;
-    let none = words::said(0);
+    let none = words::said(words::NOTHING);
     [
         words::found(
-            name_phrase(name),
-            measured(unit, field.number),
+            name_phrase(field.name),
+            measured(field.unit, field.number),
             words::bytes_at(field.at, field.width),
         ),
-        words::told(words::ALLOWED, bound(unit, field.low)),
-        upper_piece(unit, field.low, field.high),
-        other_piece(unit, field.low2, field.high2),
-        other_upper_piece(unit, field.low2, field.high2),
-        because_piece(s, because),
+        words::told(words::ALLOWED, bound(field.unit, field.low)),
+        upper_piece(field.unit, field.low, field.high),
+        other_piece(field.unit, field.low2, field.high2),
+        other_upper_piece(field.unit, field.low2, field.high2),
+        because_piece(s, field.because),
         words::told(words::RULE_REFUSAL, Value::Number(field.test as u32)),
         words::said(words::BRACKET),
         none,
@@ -195,10 +189,11 @@ fn field_row(s: &[u8], field: Field) -> [Piece; 10]
 
 // ---- the head
 
+#[tactic(auto, unfolding(crate::specs::Lines::strange_row))]
 fn strange_row(test: u8) -> [Piece; 10]
     ensures { result ≡ strange_row test }
 {
-    let none = words::said(0);
+    let none = words::said(words::NOTHING);
     [
         words::told(words::REFUSED_CASE, Value::Number(test as u32)),
         words::said(words::END),
@@ -213,10 +208,11 @@ fn strange_row(test: u8) -> [Piece; 10]
     ]
 }
 
+#[tactic(auto, unfolding(crate::specs::Lines::refused_row))]
 fn refused_row(trade: u32, test: u8) -> [Piece; 10]
     ensures { result ≡ refused_row trade test }
 {
-    let none = words::said(0);
+    let none = words::said(words::NOTHING);
     [
         words::told(words::TRADE, Value::Number(trade)),
         words::told(words::REFUSED, Value::Number(test as u32)),
@@ -231,13 +227,11 @@ fn refused_row(trade: u32, test: u8) -> [Piece; 10]
     ]
 }
 
+#[tactic(auto, unfolding(crate::specs::Lines::refused_head))]
 fn refused_head(s: &[u8], test: u8) -> [Piece; 10]
     ensures { result ≡ refused_head s.now test }
 {
-    if test < 3 {
-        return strange_row(test);
-    }
-    if s.len() < 88 {
+    if test < 3 || s.len() < 88 {
         return strange_row(test);
     }
     refused_row(wire::read_u32(s, 4), test)
