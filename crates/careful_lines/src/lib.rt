@@ -8,26 +8,23 @@ ghost use Rattle.words.specs.Rows.{rows_text};
 ghost use Rattle.careful_lines.specs.Lines.{warning_row, caution_rows, careful_rows};
 
 use careful::{Cautions, Warning};
-use facts::Mills;
 use words::{Piece, Value};
 
+#[tactic(auto, unfolding(crate::specs::Lines::warning_row))]
 fn warning_row(phrase: u8, warning: Warning) -> [Piece; 10]
     ensures { result ≡ warning_row phrase warning }
 {
-    let stands = warning.stands;
-    let turned = warning.turned;
-    let execution = warning.execution;
-    let none = words::said(0);
+    let none = words::said(words::NOTHING);
     [
         words::found(
             phrase,
-            Value::Dollars(Some(stands)),
+            Value::Dollars(Some(warning.stands)),
             words::bytes_at(warning.at, 4),
         ),
-        words::told(words::TURNED, Value::Dollars(Some(turned))),
+        words::told(words::TURNED, Value::Dollars(Some(warning.turned))),
         words::found(
             words::NEARER,
-            Value::Dollars(Some(execution)),
+            Value::Dollars(Some(warning.execution)),
             words::bytes_at(8, 4),
         ),
         words::said(words::END),
@@ -55,14 +52,9 @@ pub fn add_cautions(out: &mut [u8], at: usize, cautions: Cautions) -> usize
     requires { at + 5200 ≤ length out.old }
     ensures { (result ≡ at + length (rows_text (careful_rows cautions))) × (out.new ≡ laid_at at (rows_text (careful_rows cautions)) out.old) × (result ≤ at + 5200) }
 {
-    let bid = cautions.bid;
-    let offer = cautions.offer;
-    let official = cautions.official;
-    let buyer = cautions.buyer;
-    let seller = cautions.seller;
-    let after_bid = add_caution(out, at, words::CAREFUL_BID, bid);
-    let after_offer = add_caution(out, after_bid, words::CAREFUL_OFFER, offer);
-    let after_official = add_caution(out, after_offer, words::CAREFUL_OFFICIAL, official);
-    let after_buyer = add_caution(out, after_official, words::CAREFUL_BUYER, buyer);
-    add_caution(out, after_buyer, words::CAREFUL_SELLER, seller)
+    let after_bid = add_caution(out, at, words::CAREFUL_BID, cautions.bid);
+    let after_offer = add_caution(out, after_bid, words::CAREFUL_OFFER, cautions.offer);
+    let after_official = add_caution(out, after_offer, words::CAREFUL_OFFICIAL, cautions.official);
+    let after_buyer = add_caution(out, after_official, words::CAREFUL_BUYER, cautions.buyer);
+    add_caution(out, after_buyer, words::CAREFUL_SELLER, cautions.seller)
 }
