@@ -9,6 +9,7 @@ ghost use Rattle.facts.specs.Numbers.{price_of};
 ghost use Rattle.forms.specs.Forms.{form_of};
 ghost use Rattle.blame.specs.Fields.{field_ok, first_bad, within, or_none, held_at, capped, case_length, head_fields, coded_fields, code_fields, money_field, differential_fields, price_fields, size_bounds, count_fields, filed_bounds, filed_because, time_fields, limit_fields, agreed_bounds, made_bounds, agreement_fields, inside_blame, blame_of};
 
+use codes::Coded;
 use facts::{Agreement, Day, Mills};
 
 // The fields of the record, as the page's table has them (RULE R2.6); the two stretches of zeros share a name, and so do the bytes of a code.
@@ -391,7 +392,7 @@ fn time_blame(s: &[u8]) -> Option<Field>
     ensures { result ≡ first_bad (time_fields s.now) }
 {
     let time = |name, unit, at, bounds, because| held_at(s, name, 7, unit, at, 4, bounds, because);
-    let (filed, why) = filed(codes::day_of(s[66]), wire::read_u32(s, 16));
+    let (filed, why) = filed(Day::from_byte(s[66]), wire::read_u32(s, 16));
     let free = Because::NoMatter;
     first_bad(&[
         time(
@@ -469,7 +470,7 @@ fn agreement_blame(s: &[u8]) -> Option<Field>
     requires { 88 ≤ length s.now }
     ensures { result ≡ first_bad (agreement_fields s.now) }
 {
-    let agreement = codes::agreement_of(s[67]);
+    let agreement = Agreement::from_byte(s[67]);
     let term = |name, unit, at, bounds| {
         held_at(s, name, 9, unit, at, 4, bounds, Because::TheAgreement)
     };

@@ -9,7 +9,8 @@ ghost use Rattle.words.specs.Rows.{rows_text};
 ghost use Rattle.blame_lines.specs.Lines.{name_phrase, timed, measured, bound, upper_piece, other_piece, other_upper_piece, price_in, cause_piece, because_piece, field_row, strange_row, refused_row, refused_head, field_rows, blame_rows};
 
 use blame::{Because, Field, FieldName, Measure};
-use facts::Seconds;
+use codes::Coded;
+use facts::{Agreement, Seconds};
 use words::{Piece, Value};
 
 fn name_phrase(name: FieldName) -> u8
@@ -148,7 +149,7 @@ fn cause_piece(s: &[u8], because: Because) -> Piece
         }
         Because::TheAgreement => words::found(
             words::AGREEMENT_IS,
-            Value::Terms(codes::agreement_of(s[67])),
+            Value::Terms(Agreement::from_byte(s[67])),
             words::bytes_at(67, 1),
         ),
     }
