@@ -3,75 +3,68 @@
 // one of 65,536 bytes and refused as every sheet above 52,800 is.
 #![tactic(auto)]
 
-ghost use Rattle.std.specs.Prelude.{IsTrue};
-ghost use Rattle.std.specs.Io.KnownBytes.{Appends, IsAtEnd};
+ghost use Rattle.std.specs.Prelude.{take, IfSome, OnOk};
+ghost use Rattle.std.specs.Io.KnownBytes.{Appends};
 ghost use Rattle.explanation.specs.Pieces.{explanation_of};
 
 use std::fs::File;
+use std::io;
 use std::io::{Read, Write};
-use std::rt::Files;
+use thiserror::Error;
 
-// `read_full` also stops where a read fails. At a true end another read gives nothing; where it does not, what was read is not whole, and a part
-// of it must not be answered as if it were.
-fn ended<R: Read>(input: &mut R) -> bool
-    ensures { IsTrue result → IsAtEnd (R.remaining input.old) }
-{
-    let mut more = [0u8; 1];
-    matches!(input.read(&mut more), Ok(0))
+#[derive(Debug, Drop, Error)]
+enum Failure {
+    #[error("the trade cannot be read")]
+    Trade,
+    #[error("standard input cannot be read")]
+    Sheet,
+    #[error("the explanation cannot be written")]
+    Explanation,
 }
 
-// Reads which cases are asked for, if it can be read and has no bytes or four.
-fn read_wanted<R: Files>(rt: &R) -> Option<Option<u32>> {
-    let mut input = File::open(rt, streams::THIRD).ok()?;
-    let mut trade = [0u8; 4];
-    let brought = streams::read_full(&mut input, &mut trade);
-    if !ended(&mut input) | ((brought != 0) & (brought != 4)) {
-        return None;
-    }
-    if brought == 4 {
-        Some(Some(wire::read_u32(&trade, 0)))
-    } else {
-        Some(None)
+// Reads which cases are asked for: those of a trade by its four bytes, every case by none. A fifth byte has room here, so that it is seen.
+fn read_wanted<R: Read>(input: &mut R) -> Result<Option<u32>, Failure> {
+    let mut trade = [0u8; 5];
+    match streams::read_full(input, &mut trade) {
+        Ok(0) => Ok(None),
+        Ok(4) => Ok(Some(wire::read_u32(&trade, 0))),
+        _ => Err(Failure::Trade),
     }
 }
 
-// Writes the pieces. Whether they could be written.
-fn tell<W: Write>(output: &mut W, sheet: &[u8], want: Option<u32>) -> bool
-    ensures { IsTrue result → Appends (W.contents output.old) (W.contents output.new) (explanation_of sheet.now want) }
+// Writes the pieces.
+fn write_explanation<W: Write>(output: &mut W, sheet: &[u8], want: Option<u32>) -> io::Result<()>
+    ensures { OnOk result (Appends (W.contents output.old) (W.contents output.new) (explanation_of sheet.now want)) }
 {
     let mut text = [0u8; 20480];
-    let n = explanation::count_pieces(sheet);
-    let mut k: usize = 0;
-    while k < n {
+    for k in 0..explanation::count_pieces(sheet) {
         let m = explanation::explain_piece(sheet, k, want, &mut text);
-        if !streams::write_all(output, &text[..m]) {
-            return false;
-        }
-        k += 1;
+        streams::write_all(output, &text[..m])?;
     }
-    true
+    Ok(())
+}
+
+// Explains the sheet that the input has. Of an input that fails nothing is explained: a part of it must not be answered as if it were all.
+fn explain<R: Read, W: Write>(
+    want: Option<u32>,
+    input: &mut R,
+    output: &mut W,
+) -> Result<(), Failure>
+    ensures { OnOk result (IfSome (R.remaining input.old) (λ bytes. Appends (W.contents output.old) (W.contents output.new) (explanation_of (take 65536 bytes) want))) }
+{
+    let mut sheet = [0u8; 65536];
+    let n = streams::read_full(input, &mut sheet).map_err(|_| Failure::Sheet)?;
+    write_explanation(output, &sheet[..n], want).map_err(|_| Failure::Explanation)
+}
+
+fn run(rt: &HostRuntime) -> Result<(), Failure> {
+    let mut asked = File::open(rt, streams::THIRD).map_err(|_| Failure::Trade)?;
+    let want = read_wanted(&mut asked)?;
+    explain(want, &mut rt.stdin(), &mut rt.stdout())
 }
 
 fn main(rt: HostRuntime) {
-    let Some(want) = read_wanted(&rt) else {
-        streams::write_all(&mut rt.stderr(), b"explainer: the trade cannot be read\n");
-        return;
-    };
-    let mut sheet = [0u8; 65536];
-    let n = streams::read_full(&mut rt.stdin(), &mut sheet);
-    if n < 65536 {
-        if !ended(&mut rt.stdin()) {
-            streams::write_all(
-                &mut rt.stderr(),
-                b"explainer: standard input cannot be read\n",
-            );
-            return;
-        }
-    }
-    if !tell(&mut rt.stdout(), &sheet[..n], want) {
-        streams::write_all(
-            &mut rt.stderr(),
-            b"explainer: the explanation cannot be written\n",
-        );
+    if let Err(failure) = run(&rt) {
+        let _ = eprintln!(rt; "explainer: {failure}");
     }
 }

@@ -3,68 +3,57 @@
 // of 65,536 bytes and refused as every list above 56,000 is.
 #![tactic(auto)]
 
-ghost use Rattle.std.specs.Prelude.{IfSome, IsTrue};
+ghost use Rattle.std.specs.Prelude.{take, IfOk, IfSome, OnOk};
 ghost use Rattle.std.specs.Counts.{IsPrefixLen};
-ghost use Rattle.std.specs.Io.KnownBytes.{IsAtEnd};
+ghost use Rattle.std.specs.Io.KnownBytes.{Appends};
+ghost use Rattle.spelling.specs.Times.{time_in};
+ghost use Rattle.standing.specs.Standing.{best_text};
 
 use std::fs::File;
+use std::io;
 use std::io::{Read, Write};
 use std::rt::Files;
+use thiserror::Error;
 
-// `read_full` also stops where a read fails. At a true end another read gives nothing; where it does not, what was read is not whole, and a part
-// of it must not be answered as if it were.
-fn ended<R: Read>(input: &mut R) -> bool
-    ensures { IsTrue result → IsAtEnd (R.remaining input.old) }
-{
-    let mut more = [0u8; 1];
-    matches!(input.read(&mut more), Ok(0))
+#[derive(Debug, Drop, Error)]
+enum Failure {
+    #[error("the time cannot be read")]
+    Time,
+    #[error("standard input cannot be read")]
+    Quotes,
+    #[error("the text cannot be written")]
+    Text,
 }
 
-// Reads the time. How many bytes were typed, if they could be read.
-fn read_time<R: Files>(rt: &R, time: &mut [u8]) -> Option<usize>
-    ensures { IfSome result (λ n. IsPrefixLen n time.new) }
+// Reads the time. How many bytes were typed: 0 for a word that fills the buffer, since it is longer than any time is written, and the empty word,
+// which is no time either, stands for it.
+fn read_time<R: Files>(rt: &R, time: &mut [u8]) -> io::Result<usize>
+    ensures { IfOk result (λ n. IsPrefixLen n time.new) }
 {
-    let mut typing = File::open(rt, streams::THIRD).ok()?;
-    let typed = streams::read_full(&mut typing, time);
-    if typed < time.len() {
-        if !ended(&mut typing) {
-            return None;
-        }
-    }
-    Some(typed)
+    let typed = streams::read_full(&mut File::open(rt, streams::THIRD)?, time)?;
+    Ok(if typed < time.len() { typed } else { 0 })
 }
 
-fn tell<W: Write, E: Write>(output: &mut W, errors: &mut E, quotes: &[u8], time: &[u8]) {
+// Tells where the best prices before the typed time were born, by the quotes that the input has. Of an input that fails nothing is told: a part of it
+// must not be answered as if it were all.
+fn tell<R: Read, W: Write>(time: &[u8], input: &mut R, output: &mut W) -> Result<(), Failure>
+    ensures { OnOk result (IfSome (R.remaining input.old) (λ bytes. Appends (W.contents output.old) (W.contents output.new) (best_text (take 65536 bytes) (time_in time.now)))) }
+{
+    let mut quotes = [0u8; 65536];
+    let n = streams::read_full(input, &mut quotes).map_err(|_| Failure::Quotes)?;
     let mut text = [0u8; 4096];
-    let k = standing::print_best(quotes, time, &mut text);
-    if !streams::write_all(output, &text[..k]) {
-        streams::write_all(errors, b"finder: the text cannot be written\n");
-    }
+    let k = standing::print_best(&quotes[..n], time, &mut text);
+    streams::write_all(output, &text[..k]).map_err(|_| Failure::Text)
+}
+
+fn run(rt: &HostRuntime) -> Result<(), Failure> {
+    let mut time = [0u8; 64];
+    let typed = read_time(rt, &mut time).map_err(|_| Failure::Time)?;
+    tell(&time[..typed], &mut rt.stdin(), &mut rt.stdout())
 }
 
 fn main(rt: HostRuntime) {
-    let mut time = [0u8; 64];
-    let Some(typed) = read_time(&rt, &mut time) else {
-        streams::write_all(&mut rt.stderr(), b"finder: the time cannot be read\n");
-        return;
-    };
-    let mut quotes = [0u8; 65536];
-    let n = streams::read_full(&mut rt.stdin(), &mut quotes);
-    if n < 65536 {
-        if !ended(&mut rt.stdin()) {
-            streams::write_all(&mut rt.stderr(), b"finder: standard input cannot be read\n");
-            return;
-        }
-    }
-    // A word that fills its buffer is longer than any time is written. The empty one, which is no time, stands for it.
-    if typed < 64 {
-        tell(
-            &mut rt.stdout(),
-            &mut rt.stderr(),
-            &quotes[..n],
-            &time[..typed],
-        );
-    } else {
-        tell(&mut rt.stdout(), &mut rt.stderr(), &quotes[..n], b"");
+    if let Err(failure) = run(&rt) {
+        let _ = eprintln!(rt; "finder: {failure}");
     }
 }

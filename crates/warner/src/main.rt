@@ -2,49 +2,45 @@
 // sheet, so that a longer input, however long, is seen as one of 65,536 bytes, of which nothing is told, as of every sheet that is refused.
 #![tactic(auto)]
 
-ghost use Rattle.std.specs.Prelude.{IsTrue};
-ghost use Rattle.std.specs.Io.KnownBytes.{Appends, IsAtEnd};
+ghost use Rattle.std.specs.Prelude.{take, IfSome, OnOk};
+ghost use Rattle.std.specs.Io.KnownBytes.{Appends};
 ghost use Rattle.warnings.specs.Warned.{warnings_of};
 
+use std::io;
 use std::io::{Read, Write};
+use thiserror::Error;
 
-// `read_full` also stops where a read fails. At a true end another read gives nothing; where it does not, what was read is not whole.
-fn ended<R: Read>(input: &mut R) -> bool
-    ensures { IsTrue result → IsAtEnd (R.remaining input.old) }
-{
-    let mut more = [0u8; 1];
-    matches!(input.read(&mut more), Ok(0))
+#[derive(Debug, Drop, Error)]
+enum Failure {
+    #[error("standard input cannot be read")]
+    Input,
+    #[error("the warnings cannot be written")]
+    Warnings,
 }
 
-// Writes the warnings; a sheet has at most 600 cases. Whether they could be written.
-fn warn<W: Write>(output: &mut W, sheet: &[u8]) -> bool
-    ensures { IsTrue result → Appends (W.contents output.old) (W.contents output.new) (warnings_of sheet.now) }
+// Writes the warnings; a sheet has at most 600 cases.
+fn write_warnings<W: Write>(output: &mut W, sheet: &[u8]) -> io::Result<()>
+    ensures { OnOk result (Appends (W.contents output.old) (W.contents output.new) (warnings_of sheet.now)) }
 {
     let mut text = [0u8; 8192];
-    let mut k: usize = 0;
-    while k < 600 {
+    for k in 0..600 {
         let m = warnings::warn_piece(sheet, k, &mut text);
-        if !streams::write_all(output, &text[..m]) {
-            return false;
-        }
-        k += 1;
+        streams::write_all(output, &text[..m])?;
     }
-    true
+    Ok(())
+}
+
+// Warns of the sheet that the input has. Of an input that fails nothing is told, since a part of it is not the sheet.
+fn warn<R: Read, W: Write>(input: &mut R, output: &mut W) -> Result<(), Failure>
+    ensures { OnOk result (IfSome (R.remaining input.old) (λ bytes. Appends (W.contents output.old) (W.contents output.new) (warnings_of (take 65536 bytes)))) }
+{
+    let mut sheet = [0u8; 65536];
+    let n = streams::read_full(input, &mut sheet).map_err(|_| Failure::Input)?;
+    write_warnings(output, &sheet[..n]).map_err(|_| Failure::Warnings)
 }
 
 fn main(rt: HostRuntime) {
-    let mut sheet = [0u8; 65536];
-    let n = streams::read_full(&mut rt.stdin(), &mut sheet);
-    if n < 65536 {
-        if !ended(&mut rt.stdin()) {
-            streams::write_all(&mut rt.stderr(), b"warner: standard input cannot be read\n");
-            return;
-        }
-    }
-    if !warn(&mut rt.stdout(), &sheet[..n]) {
-        streams::write_all(
-            &mut rt.stderr(),
-            b"warner: the warnings cannot be written\n",
-        );
+    if let Err(failure) = warn(&mut rt.stdin(), &mut rt.stdout()) {
+        let _ = eprintln!(rt; "warner: {failure}");
     }
 }

@@ -1,19 +1,11 @@
-use Rattle.std.proofs.Common.{◌≡◌, arith, refl, ap, subst}
+-- What was written are the warnings of what was read.
 use Rattle.std.specs.Io.KnownBytes.{Appends}
-use Rattle.wire.specs.Laid.{row}
-use Rattle.warnings.specs.Warned.{warned_piece, warnings_of}
-use Rattle.streams.proofs.Pieces.{no_pieces, one_more}
+use Rattle.warnings.specs.Warned.{warnings_of}
+use Rattle.streams.proofs.Whole.{of_input, ok_given, done_given}
 use Rattle.warner.proofs.warn.Goals as goal
 
-pub loop-k-init : goal.loop-k-init
-loop-k-init g c = (omega arith, no_pieces (warned_piece c.args.sheet.now) _)
-
-pub loop-k-preserved : goal.loop-k-preserved
-loop-k-preserved g c =
-    (omega arith, one_more (warned_piece c.args.sheet.now) c.loop-k.k _ _ _ _ _ _ c.warn_piece-m.ensures.value c.loop-k.invariant.1 (c.if-not-write_all.ensures refl))
-
 pub returns : goal.returns
-unfolding warnings_of
 returns g c =
-    let all : c.loop-k.k ≡ 600 = omega arith in
-    λ _. subst (Appends _ _) (ap (row (warned_piece c.args.sheet.now)) all) c.loop-k.invariant.1
+    let first = ok_given _ _ _ _ c.in_ok-n.n c.map_err.ensures.cases c.in_ok-n.was c.read_full.ensures.first in
+    done_given _ _ _ _ c.map_err-2.ensures.variant c.write_warnings.ensures
+    (of_input (λ l. Appends (g.W.Write.contents c.args.output.now) (g.W.Write.contents c.write_warnings.new.output) (warnings_of l)) _ c.in_ok-n.n 65536 c.read_full.new.buf c.read_full.auto.buf first)
