@@ -10,6 +10,7 @@ ghost use Rattle.explanation.specs.Pieces.{explanation_of};
 use std::fs::File;
 use std::io;
 use std::io::{Read, Write};
+use std::rt::Files;
 use thiserror::Error;
 
 #[derive(Debug, Drop, Error)]
@@ -23,9 +24,10 @@ enum Failure {
 }
 
 // Reads which cases are asked for: those of a trade by its four bytes, every case by none. A fifth byte has room here, so that it is seen.
-fn read_wanted<R: Read>(input: &mut R) -> Result<Option<u32>, Failure> {
+fn read_wanted<R: Files>(rt: &R) -> Result<Option<u32>, Failure> {
+    let mut asked = File::open(rt, streams::THIRD).map_err(|_| Failure::Trade)?;
     let mut trade = [0u8; 5];
-    match streams::read_full(input, &mut trade) {
+    match streams::read_full(&mut asked, &mut trade) {
         Ok(0) => Ok(None),
         Ok(4) => Ok(Some(wire::read_u32(&trade, 0))),
         _ => Err(Failure::Trade),
@@ -58,8 +60,7 @@ fn explain<R: Read, W: Write>(
 }
 
 fn run(rt: &HostRuntime) -> Result<(), Failure> {
-    let mut asked = File::open(rt, streams::THIRD).map_err(|_| Failure::Trade)?;
-    let want = read_wanted(&mut asked)?;
+    let want = read_wanted(rt)?;
     explain(want, &mut rt.stdin(), &mut rt.stdout())
 }
 
