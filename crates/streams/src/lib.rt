@@ -2,7 +2,7 @@
 // a signal interrupted it.
 #![tactic(auto)]
 
-ghost use Rattle.std.specs.Prelude.{◌≡◌, ◌<◌, length, take, IfOk, IfSome, OnOk};
+ghost use Rattle.std.specs.Prelude.{◌≡◌, ℕ, ◌<◌, length, take, IfOk, IfSome, OnOk, OnErr};
 ghost use Rattle.std.specs.Counts.{IsPrefixLen};
 ghost use Rattle.std.specs.Io.KnownBytes.{Appends, Consumes, IsAtEnd};
 
@@ -14,11 +14,13 @@ use std::io::{ErrorKind, Read, Write};
 pub const THIRD: &str = "/proc/self/fd/3";
 
 // Reads until the buffer is full or the input ends. How many bytes were put at the start of the buffer: where they don't fill it, they are all that
-// the input had. Where a read fails there is no answer, since a part of an input must not be taken for all of it.
+// the input had. Where a read fails there is no count, since a part of an input must not be taken for all of it: what was read before it stands at the
+// start of the buffer.
 pub fn read_full<R: Read>(input: &mut R, buf: &mut [u8]) -> io::Result<usize>
     ensures in_bounds { IfOk result (λ n. IsPrefixLen n buf.new) }
     ensures bytes { IfOk result (λ n. Consumes (R.remaining input.old) (R.remaining input.new) (take n buf.new)) }
     ensures end { IfOk result (λ n. n < length buf.new → IsAtEnd (R.remaining input.new)) }
+    ensures err { OnErr result ((n : ℕ) × IsPrefixLen n buf.new × Consumes (R.remaining input.old) (R.remaining input.new) (take n buf.new)) }
     ensures first { IfOk result (λ n. IfSome (R.remaining input.old) (λ xs. take n buf.new ≡ take (length buf.new) xs)) }
 {
     let mut done = 0;
