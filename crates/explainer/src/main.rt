@@ -27,7 +27,7 @@ enum Failure {
 fn read_wanted<R: Files>(rt: &R) -> Result<Option<u32>, Failure> {
     let mut asked = File::open(rt, streams::THIRD).map_err(|_| Failure::Trade)?;
     let mut trade = [0u8; 5];
-    match streams::read_full(&mut asked, &mut trade) {
+    match streams::read_whole(&mut asked, &mut trade) {
         Ok(0) => Ok(None),
         Ok(4) => Ok(Some(wire::read_u32(&trade, 0))),
         _ => Err(Failure::Trade),
@@ -55,7 +55,7 @@ fn explain<R: Read, W: Write>(
     ensures { OnOk result (IfSome (R.remaining input.old) (λ bytes. Appends (W.contents output.old) (W.contents output.new) (explanation_of (take 65536 bytes) want))) }
 {
     let mut sheet = [0u8; 65536];
-    let n = streams::read_full(input, &mut sheet).map_err(|_| Failure::Sheet)?;
+    let n = streams::read_whole(input, &mut sheet).map_err(|_| Failure::Sheet)?;
     write_explanation(output, &sheet[..n], want).map_err(|_| Failure::Explanation)
 }
 

@@ -38,7 +38,7 @@ fn print<R: Read, W: Write>(input: &mut R, output: &mut W) -> Result<(), Failure
     ensures { OnOk result (IfSome (R.remaining input.old) (λ bytes. Appends (W.contents output.old) (W.contents output.new) (text_of (take 52801 bytes)))) }
 {
     let mut sheet = [0u8; 52801];
-    let n = streams::read_full(input, &mut sheet).map_err(|_| Failure::Input)?;
+    let n = streams::read_whole(input, &mut sheet).map_err(|_| Failure::Input)?;
     write_report(output, &sheet[..n]).map_err(|_| Failure::Report)
 }
 

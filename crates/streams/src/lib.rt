@@ -16,7 +16,7 @@ pub const THIRD: &str = "/proc/self/fd/3";
 // Reads until the buffer is full or the input ends. How many bytes were put at the start of the buffer: where they don't fill it, they are all that
 // the input had. Where a read fails there is no count, since a part of an input must not be taken for all of it: what was read before it stands at the
 // start of the buffer.
-pub fn read_full<R: Read>(input: &mut R, buf: &mut [u8]) -> io::Result<usize>
+pub fn read_whole<R: Read>(input: &mut R, buf: &mut [u8]) -> io::Result<usize>
     ensures in_bounds { IfOk result (λ n. IsPrefixLen n buf.new) }
     ensures bytes { IfOk result (λ n. Consumes (R.remaining input.old) (R.remaining input.new) (take n buf.new)) }
     ensures end { IfOk result (λ n. n < length buf.new → IsAtEnd (R.remaining input.new)) }

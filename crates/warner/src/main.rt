@@ -35,7 +35,7 @@ fn warn<R: Read, W: Write>(input: &mut R, output: &mut W) -> Result<(), Failure>
     ensures { OnOk result (IfSome (R.remaining input.old) (λ bytes. Appends (W.contents output.old) (W.contents output.new) (warnings_of (take 65536 bytes)))) }
 {
     let mut sheet = [0u8; 65536];
-    let n = streams::read_full(input, &mut sheet).map_err(|_| Failure::Input)?;
+    let n = streams::read_whole(input, &mut sheet).map_err(|_| Failure::Input)?;
     write_warnings(output, &sheet[..n]).map_err(|_| Failure::Warnings)
 }
 

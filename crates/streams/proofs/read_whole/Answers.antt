@@ -2,7 +2,7 @@ use Rattle.std.proofs.Common.{◌-◌, rules, length, subst}
 use Rattle.std.specs.Io.KnownBytes.{Consumes}
 use Rattle.std.proofs.KnownBytes.{Consumes-trans}
 use Rattle.streams.proofs.Parts.{read_more}
-use Rattle.streams.proofs.read_full.Goals as goal
+use Rattle.streams.proofs.read_whole.Goals as goal
 
 pub loop-done-preserved : goal.loop-done-preserved
 loop-done-preserved g c =
