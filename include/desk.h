@@ -5,8 +5,8 @@
  * They ask nothing of the caller but valid pointers, each to as many bytes as its length says, and buffers that do not
  * overlap. Beside a length of 0 the pointer may be NULL. Any bytes may be given: what is not a case, a sheet or a list of
  * quotes gets the number of the first test that it fails (from desk_quotes_before, which has no room for it, 0). They keep no
- * state and allocate nothing. Of the stack desk_check_case takes 72 bytes, desk_rule_case 176, desk_rule_sheet 224,
- * desk_print_sheet 272 and desk_explain_case 3,056, as measured; those for quotes were not.
+ * state and allocate nothing. Of the stack desk_check_case takes 64 bytes, desk_rule_case 176, desk_rule_sheet 224,
+ * desk_print_sheet 272 and desk_explain_case 3,488, as measured; those for quotes were not.
  *
  * A program that was compiled when struct desk_best had five numbers, and desk_best_quotes three arguments, must be compiled
  * again: the linker does not see the difference. One that was written when bytes 10 and 11 of a ruling were both zero, under the

@@ -1,10 +1,10 @@
 #!/usr/bin/env python3
 """Every place of the eight points in crates/*/src/*.rt and crates/*/proofs, by the text alone.
 
-    python3 places.py ROOT [fn]
+    python3 tools/places.py ROOT [fn]
 
 A line each, POINT<TAB>crate/file:line<TAB>what; then the counts, per point and kind, and per crate. What the kinds (1a, 4e ..) are, and where
-a count differs from a reading, stands in places.md. With a second argument the third column has only the name, crate::function.
+a count differs from a reading, stands in docs/DESIGN-PASS.md. With a second argument the third column has only the name, crate::function.
 """
 import sys, collections
 import re, os
