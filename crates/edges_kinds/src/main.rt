@@ -62,63 +62,11 @@ fn rule<W: Write>(out: &mut W, name: &[u8], case: &[u8], room: usize) -> io::Res
 
 // ---- rows of the table that is brought on standard input
 
-// A number in decimal; it ends before the first byte that is no digit, and before the digit that would pass four bytes.
-fn number(text: &[u8]) -> u32 {
-    let mut n: u32 = 0;
-    for b in text {
-        let Some(digit) = char::from(*b).to_digit(10) else {
-            break;
-        };
-        let Some(more) = n.checked_mul(10).and_then(|tens| tens.checked_add(digit)) else {
-            break;
-        };
-        n = more;
-    }
-    n
-}
-
-// AT=N puts a four-byte number into the record, where it has room for it.
-fn put_word(case: &mut [u8], text: &[u8]) -> bool {
-    let Some(sign) = text.iter().position(|b| *b == b'=') else {
-        return false;
-    };
-    let at = number(&text[..sign]) as usize;
-    let fits = at + 4 <= case.len();
-    if fits {
-        wire::put_u32(case, at, number(&text[sign + 1..]));
-    }
-    fits
-}
-
-// AT.N puts a byte into the record, where it has such a place.
-fn put_byte(case: &mut [u8], text: &[u8]) -> bool {
-    let Some(point) = text.iter().position(|b| *b == b'.') else {
-        return false;
-    };
-    let at = number(&text[..point]) as usize;
-    let n = number(&text[point + 1..]);
-    let fits = at < case.len() && n < 256;
-    if fits {
-        case[at] = n as u8;
-    }
-    fits
-}
-
-// The changes of a row, each behind a bar, are made to the record; what is none, or is outside the record, is told. The row's name stands before them.
-fn change_all<'a, W: Write>(out: &mut W, case: &mut [u8], row: &'a [u8]) -> io::Result<&'a [u8]> {
-    let mut parts = row.split(|b| *b == b'|');
-    let name = parts.next().unwrap_or(b"");
-    for text in parts {
-        if !put_word(case, text) && !put_byte(case, text) {
-            out.write_all(b"(no change) ")?;
-        }
-    }
-    Ok(name)
-}
-
 fn say_changed<W: Write>(out: &mut W, row: &[u8], case: &mut [u8]) -> io::Result<()> {
-    let name = change_all(out, case, row)?;
-    rule(out, name, case, 96)
+    if !rows::change_all(case, row) {
+        out.write_all(b"(no change) ")?;
+    }
+    rule(out, rows::name(row), case, 96)
 }
 
 // A row begins with "kind 1" or "kind 2". One that begins with '#' has the working, and says nothing.

@@ -1,0 +1,3 @@
+mod Cuts
+mod Changes
+pub mod Exact
