@@ -100,34 +100,34 @@ pub violates_exact : Exact (facts.violates.Reads.Post tt)
 violates_exact = facts.Exact.violates_exact
 
 -- ---- codes
-pub side_of_exact : Exact (codes.side_of.Reads.Post tt)
+pub side_of_exact : Exact (codes.SideCoded.from_byte.Reads.Post tt)
 side_of_exact = codes.Exact.side_of_exact
 
-pub side_number_exact : Exact (codes.side_number.Reads.Post tt)
+pub side_number_exact : Exact (codes.SideCoded.byte.Reads.Post tt)
 side_number_exact = codes.Exact.side_number_exact
 
-pub kind_of_exact : Exact (codes.kind_of.Reads.Post tt)
+pub kind_of_exact : Exact (codes.KindCoded.from_byte.Reads.Post tt)
 kind_of_exact = codes.Exact.kind_of_exact
 
-pub kind_number_exact : Exact (codes.kind_number.Reads.Post tt)
+pub kind_number_exact : Exact (codes.KindCoded.byte.Reads.Post tt)
 kind_number_exact = codes.Exact.kind_number_exact
 
-pub day_of_exact : Exact (codes.day_of.Reads.Post tt)
+pub day_of_exact : Exact (codes.DayCoded.from_byte.Reads.Post tt)
 day_of_exact = codes.Exact.day_of_exact
 
-pub day_number_exact : Exact (codes.day_number.Reads.Post tt)
+pub day_number_exact : Exact (codes.DayCoded.byte.Reads.Post tt)
 day_number_exact = codes.Exact.day_number_exact
 
-pub agreement_of_exact : Exact (codes.agreement_of.Reads.Post tt)
+pub agreement_of_exact : Exact (codes.AgreementCoded.from_byte.Reads.Post tt)
 agreement_of_exact = codes.Exact.agreement_of_exact
 
-pub agreement_number_exact : Exact (codes.agreement_number.Reads.Post tt)
+pub agreement_number_exact : Exact (codes.AgreementCoded.byte.Reads.Post tt)
 agreement_number_exact = codes.Exact.agreement_number_exact
 
-pub flag_of_exact : Exact (codes.flag_of.Reads.Post tt)
+pub flag_of_exact : Exact (codes.BoolCoded.from_byte.Reads.Post tt)
 flag_of_exact = codes.Exact.flag_of_exact
 
-pub flag_number_exact : Exact (codes.flag_number.Reads.Post tt)
+pub flag_number_exact : Exact (codes.BoolCoded.byte.Reads.Post tt)
 flag_number_exact = codes.Exact.flag_number_exact
 
 -- ---- forms
