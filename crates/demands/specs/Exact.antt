@@ -8,8 +8,7 @@ use denote.Param.Laws.{Laws, IsCopy}
 use mir.Syntax.{Dict, w64}
 use mir.Val.{Fits}
 use contract.Lifetimes.{Lfts}
-use Rattle.std.specs.Prelude.{ℕ, ◌≡◌, List}
-use Rattle.std.specs.Borrow.{Bor}
+use Rattle.std.specs.Prelude.{ℕ, ◌≡◌}
 use Rattle.std.specs.declared.clone.Clone.{Ghosts}
 use Rattle.codes.specs.Codes.{kind_number}
 use Rattle.parties.specs.Words.{Side, Kind}
@@ -561,8 +560,5 @@ pub good_two_exact : Exact (specimen.good_two.Reads.Post tt)
 good_two_exact = specimen.Exact.good_two_exact
 
 -- ---- rows
-pub name_exact : (κs : Lfts 1) (a e e' : _) (r r' : Bor (List ℕ)) → rows.name.Reads.Post κs a r e → rows.name.Reads.Post κs a r' e' → r.now ≡ r'.now
-name_exact = rows.Exact.name_exact
-
-pub change_all_exact : (κs : Lfts 2) → ExactIn (λ a. a.0) (rows.change_all.Reads.Post κs)
-change_all_exact = rows.Exact.change_all_exact
+pub change_exact : (κs : Lfts 2) → ExactIn (λ a. a.0) (rows.change.Reads.Post κs)
+change_exact = rows.Exact.change_exact

@@ -91,10 +91,14 @@ fn whole<W: Write>(out: &mut W) -> io::Result<()> {
 
 fn say_row<W: Write>(out: &mut W, row: &[u8]) -> io::Result<()> {
     let mut case = good();
-    if !rows::change_all(&mut case, row) {
-        out.write_all(b"(no change) ")?;
+    let mut parts = row.split(|b| *b == b'|');
+    let name = parts.next().unwrap_or(b"");
+    for text in parts {
+        if !rows::change(&mut case, text) {
+            out.write_all(b"(no change) ")?;
+        }
     }
-    reading(out, rows::name(row), &case)
+    reading(out, name, &case)
 }
 
 fn table<W: Write>(rt: &(impl Input + AllocGlobal), out: &mut W) -> io::Result<()> {

@@ -63,10 +63,14 @@ fn rule<W: Write>(out: &mut W, name: &[u8], case: &[u8], room: usize) -> io::Res
 // ---- rows of the table that is brought on standard input
 
 fn say_changed<W: Write>(out: &mut W, row: &[u8], case: &mut [u8]) -> io::Result<()> {
-    if !rows::change_all(case, row) {
-        out.write_all(b"(no change) ")?;
+    let mut parts = row.split(|b| *b == b'|');
+    let name = parts.next().unwrap_or(b"");
+    for text in parts {
+        if !rows::change(case, text) {
+            out.write_all(b"(no change) ")?;
+        }
     }
-    rule(out, rows::name(row), case, 96)
+    rule(out, name, case, 96)
 }
 
 // A row begins with "kind 1" or "kind 2". One that begins with '#' has the working, and says nothing.

@@ -1,3 +1,2 @@
 mod Cuts
-mod Changes
 pub mod Exact

@@ -1,8 +1,7 @@
--- The rows of a table that a program is run on. A row has a name and, behind a bar each, changes; a change is AT=N, which puts a four-byte number
--- into a record, or AT.N, which puts a byte.
-use Rattle.std.specs.Prelude.{ℕ, ◌+◌, ◌*◌, Bool, true, ◌&&◌, List, [], ◌∷◌, length, drop, set, leb, ltb, eqb, Option, Some, None, is_some, unwrap_or}
+-- The changes in the rows of a table that a program is run on: AT=N puts a four-byte number into a record, AT.N a byte.
+use Rattle.std.specs.Prelude.{ℕ, ◌+◌, ◌*◌, Bool, ◌&&◌, List, [], ◌∷◌, length, set, leb, ltb, eqb, Option, Some, None, is_some}
 use Rattle.std.specs.Char.{digit_value}
-use Rattle.std.specs.List.{slice_split, before_first, after_first, position_or_len}
+use Rattle.std.specs.List.{before_first, after_first, position_or_len}
 use Rattle.wire.specs.Numbers.{bytes, stored}
 use Rattle.wire.specs.Tests.{pick}
 
@@ -43,20 +42,3 @@ with_byte case text = pick (has 46 text && ltb (before 46 text) (length case) &&
 -- with the one or the other; none where the text is no change of the record
 abbrev pub changed_by : List ℕ → List ℕ → Option (List ℕ)
 changed_by case text = pick (is_some (with_word case text)) (with_word case text) (with_byte case text)
-
--- the record after these changes, of which those that are none leave it as it is
-abbrev pub all_changed : List ℕ → List (List ℕ) → List ℕ
-all_changed case [] = case
-all_changed case (text ∷ texts) = all_changed (unwrap_or (changed_by case text) case) texts
-
--- each of them is a change of the record as the earlier ones left it
-abbrev pub all_made : List ℕ → List (List ℕ) → Bool
-all_made case [] = true
-all_made case (text ∷ texts) = is_some (changed_by case text) && all_made (unwrap_or (changed_by case text) case) texts
-
--- the name of a row, before the first bar (124), and its changes, behind a bar each
-abbrev pub name_of : List ℕ → List ℕ
-name_of row = front 124 row
-
-abbrev pub changes_of : List ℕ → List (List ℕ)
-changes_of row = drop 1 (slice_split (λ b. eqb b 124) row)

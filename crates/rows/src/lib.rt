@@ -1,11 +1,9 @@
-// The rows of a table that a program is run on: a row has a name and, behind a bar each, changes that are made to a record. Refuses nothing: a
-// change that is none, or has no room in the record, is passed over, and told.
+// The changes of a record that stand in the rows of the tables that programs are run on. Refuses nothing: what is no change, or has no room in the
+// record, changes nothing, and is told.
 #![tactic(auto)]
 
 ghost use Rattle.std.specs.Prelude.{◌≡◌, true, false, is_some, unwrap_or, MatchOption};
-ghost use Rattle.rows.specs.Rows.{number_in, has, front, rest, name_of, with_word, with_byte, changed_by, changes_of, all_made, all_changed};
-
-// ---- a change
+ghost use Rattle.rows.specs.Rows.{number_in, has, front, rest, with_word, with_byte, changed_by};
 
 // A number in decimal; it ends before the first byte that is no digit, and before the digit that would pass four bytes.
 fn number(text: &[u8]) -> u32
@@ -63,28 +61,9 @@ fn put_byte(case: &mut [u8], text: &[u8]) -> bool
     fits
 }
 
-fn change(case: &mut [u8], text: &[u8]) -> bool
+// Makes a change. Whether it is one, and has room.
+pub fn change(case: &mut [u8], text: &[u8]) -> bool
     ensures { (result ≡ is_some (changed_by case.old text.now)) × (case.new ≡ unwrap_or (changed_by case.old text.now) case.old) }
 {
     put_word(case, text) || put_byte(case, text)
-}
-
-// ---- a row
-
-// What stands before the first bar.
-pub fn name(row: &[u8]) -> &[u8]
-    ensures { result.now ≡ name_of row.now }
-{
-    cut(row, b'|').map_or(row, |parts| parts.0)
-}
-
-// Makes the changes of a row, one after the other. Whether each was one, and had room.
-pub fn change_all(case: &mut [u8], row: &[u8]) -> bool
-    ensures { (result ≡ all_made case.old (changes_of row.now)) × (case.new ≡ all_changed case.old (changes_of row.now)) }
-{
-    let mut all = true;
-    for text in row.split(|b| *b == b'|').skip(1) {
-        all &= change(case, text);
-    }
-    all
 }
