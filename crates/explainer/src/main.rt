@@ -23,13 +23,17 @@ enum Failure {
     Explanation,
 }
 
-// Reads which cases are asked for: those of a trade by its four bytes, every case by none. A fifth byte has room here, so that it is seen.
+// Reads which cases are asked for: those of a trade by its four bytes, every case by none. Behind four nothing may come.
 fn read_wanted<R: Files>(rt: &R) -> Result<Option<u32>, Failure> {
     let mut asked = File::open(rt, streams::THIRD).map_err(|_| Failure::Trade)?;
-    let mut trade = [0u8; 5];
-    match streams::read_whole(&mut asked, &mut trade) {
-        Ok(0) => Ok(None),
-        Ok(4) => Ok(Some(wire::read_u32(&trade, 0))),
+    let mut trade = [0u8; 4];
+    let brought = streams::read_full(&mut asked, &mut trade);
+    if !streams::ended(&mut asked) {
+        return Err(Failure::Trade);
+    }
+    match brought {
+        0 => Ok(None),
+        4 => Ok(Some(wire::read_u32(&trade, 0))),
         _ => Err(Failure::Trade),
     }
 }
@@ -46,7 +50,7 @@ fn write_explanation<W: Write>(output: &mut W, sheet: &[u8], want: Option<u32>) 
     Ok(())
 }
 
-// Explains the sheet that the input has. Of an input that fails nothing is explained: a part of it must not be answered as if it were all.
+// Explains the sheet that the input has. Of one that was not at its end nothing is explained: a part of it must not be answered as if it were all.
 fn explain<R: Read, W: Write>(
     want: Option<u32>,
     input: &mut R,
@@ -55,7 +59,7 @@ fn explain<R: Read, W: Write>(
     ensures { OnOk result (IfSome (R.remaining input.old) (λ bytes. Appends (W.contents output.old) (W.contents output.new) (explanation_of (take 65536 bytes) want))) }
 {
     let mut sheet = [0u8; 65536];
-    let n = streams::read_whole(input, &mut sheet).map_err(|_| Failure::Sheet)?;
+    let n = streams::read_ended(input, &mut sheet).map_err(|_| Failure::Sheet)?;
     write_explanation(output, &sheet[..n], want).map_err(|_| Failure::Explanation)
 }
 

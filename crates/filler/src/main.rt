@@ -28,7 +28,7 @@ enum Failure {
 fn read_quotes<R: Files>(rt: &R, quotes: &mut [u8]) -> io::Result<usize>
     ensures { IfOk result (λ n. IsPrefixLen n quotes.new) }
 {
-    streams::read_whole(&mut File::open(rt, streams::THIRD)?, quotes)
+    streams::read_ended(&mut File::open(rt, streams::THIRD)?, quotes)
 }
 
 // Fills the sheet, and writes it where it is not refused whole.
@@ -42,8 +42,8 @@ fn write_filled<W: Write>(output: &mut W, quotes: &[u8], sheet: &mut [u8]) -> io
     Ok(())
 }
 
-// Fills the sheet that the input has, and tells what became of each case. Of an input that fails nothing is filled: a part of it must not be taken for
-// all. Where only the telling fails, the sheet is written, and there is nowhere to say so.
+// Fills the sheet that the input has, and tells what became of each case. Of one that was not at its end nothing is filled: a part of it must not be taken
+// for all. Where only the telling fails, the sheet is written, and there is nowhere to say so.
 fn fill<R: Read, W: Write, E: Write>(
     quotes: &[u8],
     input: &mut R,
@@ -53,7 +53,7 @@ fn fill<R: Read, W: Write, E: Write>(
     ensures { OnOk result (IfSome (R.remaining input.old) (λ bytes. (fill_sheet_of quotes.now (take 65536 bytes)).0 ≡ 0 → Appends (W.contents output.old) (W.contents output.new) (fill_sheet_of quotes.now (take 65536 bytes)).1)) }
 {
     let mut sheet = [0u8; 65536];
-    let n = streams::read_whole(input, &mut sheet).map_err(|_| Failure::Sheet)?;
+    let n = streams::read_ended(input, &mut sheet).map_err(|_| Failure::Sheet)?;
     let mut text = [0u8; 131072];
     let k = fill_report::print_filling(quotes, &sheet[..n], &mut text);
     write_filled(output, quotes, &mut sheet[..n]).map_err(|_| Failure::Filled)?;

@@ -30,17 +30,17 @@ enum Failure {
 fn read_time<R: Files>(rt: &R, time: &mut [u8]) -> io::Result<usize>
     ensures { IfOk result (λ n. IsPrefixLen n time.new) }
 {
-    let typed = streams::read_whole(&mut File::open(rt, streams::THIRD)?, time)?;
+    let typed = streams::read_ended(&mut File::open(rt, streams::THIRD)?, time)?;
     Ok(if typed < time.len() { typed } else { 0 })
 }
 
-// Tells where the best prices before the typed time were born, by the quotes that the input has. Of an input that fails nothing is told: a part of it
+// Tells where the best prices before the typed time were born, by the quotes that the input has. Of one that was not at its end nothing is told: a part of it
 // must not be answered as if it were all.
 fn tell<R: Read, W: Write>(time: &[u8], input: &mut R, output: &mut W) -> Result<(), Failure>
     ensures { OnOk result (IfSome (R.remaining input.old) (λ bytes. Appends (W.contents output.old) (W.contents output.new) (best_text (take 65536 bytes) (time_in time.now)))) }
 {
     let mut quotes = [0u8; 65536];
-    let n = streams::read_whole(input, &mut quotes).map_err(|_| Failure::Quotes)?;
+    let n = streams::read_ended(input, &mut quotes).map_err(|_| Failure::Quotes)?;
     let mut text = [0u8; 4096];
     let k = standing::print_best(&quotes[..n], time, &mut text);
     streams::write_all(output, &text[..k]).map_err(|_| Failure::Text)

@@ -2,7 +2,8 @@
 // that a longer input, however long, is seen as one of 52,801 bytes and refused as every sheet above 52,800 is. No piece is longer than 96 bytes.
 #![tactic(auto)]
 
-ghost use Rattle.std.specs.Prelude.{take, IfSome, OnOk};
+ghost use Rattle.std.specs.Prelude.{◌≡◌, length, take, IfOk, IfSome, OnOk};
+ghost use Rattle.std.specs.Counts.{IsPrefixLen};
 ghost use Rattle.std.specs.Io.KnownBytes.{Appends};
 ghost use Rattle.report.specs.Report.{text_of};
 
@@ -33,12 +34,23 @@ fn write_report<W: Write>(output: &mut W, sheet: &[u8]) -> io::Result<()>
     Ok(())
 }
 
+// Reads the sheet. How many bytes it has, if none of its reads fails.
+fn read_sheet<R: Read>(input: &mut R, sheet: &mut [u8]) -> Result<usize, Failure>
+    ensures in_bounds { IfOk result (λ n. IsPrefixLen n sheet.new) }
+    ensures first { IfOk result (λ n. IfSome (R.remaining input.old) (λ bytes. take n sheet.new ≡ take (length sheet.new) bytes)) }
+{
+    let Ok(n) = streams::read_whole(input, sheet) else {
+        return Err(Failure::Input);
+    };
+    Ok(n)
+}
+
 // Prints the report of the sheet that the input has. Of an input that fails nothing is printed: a part of it must not be ruled as if it were all.
 fn print<R: Read, W: Write>(input: &mut R, output: &mut W) -> Result<(), Failure>
     ensures { OnOk result (IfSome (R.remaining input.old) (λ bytes. Appends (W.contents output.old) (W.contents output.new) (text_of (take 52801 bytes)))) }
 {
     let mut sheet = [0u8; 52801];
-    let n = streams::read_whole(input, &mut sheet).map_err(|_| Failure::Input)?;
+    let n = read_sheet(input, &mut sheet)?;
     write_report(output, &sheet[..n]).map_err(|_| Failure::Report)
 }
 

@@ -2,7 +2,7 @@
 // a signal interrupted it.
 #![tactic(auto)]
 
-ghost use Rattle.std.specs.Prelude.{◌≡◌, ℕ, ◌<◌, length, take, IfOk, IfSome, OnOk, OnErr};
+ghost use Rattle.std.specs.Prelude.{◌≡◌, ℕ, ◌<◌, length, take, IfOk, IfSome, IsTrue, OnOk, OnErr};
 ghost use Rattle.std.specs.Counts.{IsPrefixLen};
 ghost use Rattle.std.specs.Io.KnownBytes.{Appends, Consumes, IsAtEnd};
 
@@ -12,6 +12,33 @@ use std::io::{ErrorKind, Read, Write};
 // The system's name for what stands on file descriptor 3, beside the three that have a name in the library. Opened by its name a file is read from
 // its start.
 pub const THIRD: &str = "/proc/self/fd/3";
+
+// Reads until the buffer is full, the input ends or a read fails. How many bytes were put at the start of the buffer, and whether a read failed.
+fn read_on<R: Read>(input: &mut R, buf: &mut [u8]) -> (usize, io::Result<()>)
+    ensures in_bounds { IsPrefixLen result.0 buf.new }
+    ensures bytes { Consumes (R.remaining input.old) (R.remaining input.new) (take result.0 buf.new) }
+    ensures end { OnOk result.1 (result.0 < length buf.new → IsAtEnd (R.remaining input.new)) }
+{
+    let mut done = 0;
+    while done < buf.len() {
+        match input.read(&mut buf[done..]) {
+            Ok(0) => break,
+            Ok(n) => done += n,
+            Err(failure) => return (done, Err(failure)),
+        }
+    }
+    (done, Ok(()))
+}
+
+// Reads until the buffer is full, the input ends or a read fails. How many bytes were put at the start of the buffer. A number and no `Result`, since it
+// can't fail: where a read does, what came before it counts, and a caller that must know asks `ended`.
+pub fn read_full<R: Read>(input: &mut R, buf: &mut [u8]) -> usize
+    ensures in_bounds { IsPrefixLen result buf.new }
+    ensures bytes { Consumes (R.remaining input.old) (R.remaining input.new) (take result buf.new) }
+{
+    let (n, _) = read_on(input, buf);
+    n
+}
 
 // Reads until the buffer is full or the input ends. How many bytes were put at the start of the buffer: where they don't fill it, they are all that
 // the input had. Where a read fails there is no count, since a part of an input must not be taken for all of it: what was read before it stands at the
@@ -23,14 +50,30 @@ pub fn read_whole<R: Read>(input: &mut R, buf: &mut [u8]) -> io::Result<usize>
     ensures err { OnErr result ((n : ℕ) × IsPrefixLen n buf.new × Consumes (R.remaining input.old) (R.remaining input.new) (take n buf.new)) }
     ensures first { IfOk result (λ n. IfSome (R.remaining input.old) (λ xs. take n buf.new ≡ take (length buf.new) xs)) }
 {
-    let mut done = 0;
-    while done < buf.len() {
-        match input.read(&mut buf[done..])? {
-            0 => break,
-            n => done += n,
-        }
+    let (n, read) = read_on(input, buf);
+    read?;
+    Ok(n)
+}
+
+// Whether an input that gave nothing more, or failed, is at its end: then another read gives nothing. A bool, since one that fails is not at its end.
+pub fn ended<R: Read>(input: &mut R) -> bool
+    ensures { IsTrue result → IsAtEnd (R.remaining input.old) }
+{
+    let mut more = [0u8; 1];
+    matches!(input.read(&mut more), Ok(0))
+}
+
+// Reads as `read_full` does, and where there is room left asks once more: an input that still gives something, or fails, was not at its end, and a part
+// of it must not be taken for all of it. How many bytes were put at the start of the buffer.
+pub fn read_ended<R: Read>(input: &mut R, buf: &mut [u8]) -> io::Result<usize>
+    ensures in_bounds { IfOk result (λ n. IsPrefixLen n buf.new) }
+    ensures first { IfOk result (λ n. IfSome (R.remaining input.old) (λ xs. take n buf.new ≡ take (length buf.new) xs)) }
+{
+    let n = read_full(input, buf);
+    if n < buf.len() && !ended(input) {
+        return Err(ErrorKind::UnexpectedEof.into());
     }
-    Ok(done)
+    Ok(n)
 }
 
 // Writes all of the bytes. A write that takes nothing has failed, and of no bytes none is made.

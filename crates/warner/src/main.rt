@@ -30,12 +30,12 @@ fn write_warnings<W: Write>(output: &mut W, sheet: &[u8]) -> io::Result<()>
     Ok(())
 }
 
-// Warns of the sheet that the input has. Of an input that fails nothing is told, since a part of it is not the sheet.
+// Warns of the sheet that the input has. Of one that was not at its end nothing is told, since a part of it is not the sheet.
 fn warn<R: Read, W: Write>(input: &mut R, output: &mut W) -> Result<(), Failure>
     ensures { OnOk result (IfSome (R.remaining input.old) (λ bytes. Appends (W.contents output.old) (W.contents output.new) (warnings_of (take 65536 bytes)))) }
 {
     let mut sheet = [0u8; 65536];
-    let n = streams::read_whole(input, &mut sheet).map_err(|_| Failure::Input)?;
+    let n = streams::read_ended(input, &mut sheet).map_err(|_| Failure::Input)?;
     write_warnings(output, &sheet[..n]).map_err(|_| Failure::Warnings)
 }
 

@@ -6,4 +6,4 @@ use Rattle.streams.proofs.write_all.Goals as goal
 
 pub loop-done-preserved : goal.loop-done-preserved
 loop-done-preserved g c =
-    (search rules, subst (Appends _ _) (written_more c.loop-done.done c.in_ok-n.n c.args.bytes.now) (Appends-trans _ _ _ _ _ c.loop-done.invariant.1 c.in_ok-n.ensures.bytes))
+    (search rules, subst (Appends _ _) (written_more c.loop-done.done c.in_ok-n.n c.args.bytes.now) (Appends-trans _ _ _ _ _ c.loop-done.invariant.1 (search rules)))

@@ -6,6 +6,6 @@ use Rattle.warner.proofs.warn.Goals as goal
 
 pub returns : goal.returns
 returns g c =
-    let first = ok_given _ _ _ _ c.in_ok-n.n c.map_err.ensures.cases c.in_ok-n.was c.read_whole.ensures.first in
+    let first = ok_given _ _ _ _ c.in_ok-n.n c.map_err.ensures.cases c.in_ok-n.was c.read_ended.ensures.first in
     done_given _ _ _ _ c.map_err-2.ensures.variant c.write_warnings.ensures
-    (of_input (λ l. Appends (g.W.Write.contents c.args.output.now) (g.W.Write.contents c.write_warnings.new.output) (warnings_of l)) _ c.in_ok-n.n 65536 c.read_whole.new.buf c.read_whole.auto.buf first)
+    (of_input (λ l. Appends (g.W.Write.contents c.args.output.now) (g.W.Write.contents c.write_warnings.new.output) (warnings_of l)) _ c.in_ok-n.n 65536 c.read_ended.new.buf c.read_ended.auto.buf first)
