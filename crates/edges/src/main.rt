@@ -8,7 +8,7 @@ ghost use Rattle.std.specs.Io.KnownBytes.{Appends};
 use facts::{Contracts, Facts, Mills, Trade};
 use specimen::{Record, byte, good, word};
 use std::io;
-use std::io::{BufRead, Write};
+use std::io::{Read, Write};
 
 // The mark "none".
 const NONE: u32 = 4294967295;
@@ -102,8 +102,10 @@ fn say_row<W: Write>(out: &mut W, row: &[u8]) -> io::Result<()> {
 }
 
 fn table<W: Write>(rt: &(impl Input + AllocGlobal), out: &mut W) -> io::Result<()> {
-    for row in rt.reader().split(rt.alloc(), b'\n') {
-        say_row(out, &row?)?;
+    let mut rows = Vec::new(rt.alloc());
+    rt.reader().read_to_end(&mut rows)?;
+    for line in rows.as_slice().split_inclusive(|b| *b == b'\n') {
+        say_row(out, line.strip_suffix(b"\n").unwrap_or(line))?;
     }
     Ok(())
 }
@@ -141,10 +143,11 @@ fn refused_writings<W: Write>(out: &mut W) -> io::Result<()> {
 }
 
 fn main(rt: HostRuntime) -> io::Result<()> {
-    let out = &mut rt.stdout();
-    lengths(out)?;
-    table(&rt, out)?;
-    whole(out)?;
-    writings(out)?;
-    refused_writings(out)
+    let mut said = Vec::new(rt.alloc());
+    lengths(&mut said)?;
+    table(&rt, &mut said)?;
+    whole(&mut said)?;
+    writings(&mut said)?;
+    refused_writings(&mut said)?;
+    rt.write_all(said.as_slice())
 }

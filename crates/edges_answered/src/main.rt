@@ -153,11 +153,12 @@ fn large_mixed<W: Write>(out: &mut W) -> io::Result<()> {
 }
 
 fn main(rt: HostRuntime) -> io::Result<()> {
-    let out = &mut rt.stdout();
-    answers(out)?;
-    refusals(out)?;
-    sheets(out)?;
-    large_sheets(out)?;
-    large_sheets_two(out)?;
-    large_mixed(out)
+    let mut said = Vec::new(rt.alloc());
+    answers(&mut said)?;
+    refusals(&mut said)?;
+    sheets(&mut said)?;
+    large_sheets(&mut said)?;
+    large_sheets_two(&mut said)?;
+    large_mixed(&mut said)?;
+    rt.write_all(said.as_slice())
 }

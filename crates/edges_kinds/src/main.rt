@@ -10,7 +10,7 @@ ghost use Rattle.std.specs.Io.KnownBytes.{Appends};
 use facts::Facts;
 use specimen::{good, good_two};
 use std::io;
-use std::io::{BufRead, Write};
+use std::io::{Read, Write};
 
 // What stands in a buffer before a call.
 const FRESH: u8 = 238;
@@ -73,18 +73,22 @@ fn say_changed<W: Write>(out: &mut W, row: &[u8], case: &mut [u8]) -> io::Result
     rule(out, name, case, 96)
 }
 
-// A row begins with "kind 1" or "kind 2". One that begins with '#' has the working, and says nothing.
+// A row begins with "kind 1" or "kind 2".
 fn say_row<W: Write>(out: &mut W, row: &[u8]) -> io::Result<()> {
     match row {
-        [b'#', ..] => Ok(()),
         [_, _, _, _, _, b'2', ..] => say_changed(out, row, &mut good_two()),
         _ => say_changed(out, row, &mut good()),
     }
 }
 
+// A row that begins with '#' has the working, and says nothing.
 fn table<W: Write>(rt: &(impl Input + AllocGlobal), out: &mut W) -> io::Result<()> {
-    for row in rt.reader().split(rt.alloc(), b'\n') {
-        say_row(out, &row?)?;
+    let mut rows = Vec::new(rt.alloc());
+    rt.reader().read_to_end(&mut rows)?;
+    for line in rows.as_slice().split_inclusive(|b| *b == b'\n') {
+        if !line.starts_with(b"#") {
+            say_row(out, line.strip_suffix(b"\n").unwrap_or(line))?;
+        }
     }
     Ok(())
 }
@@ -234,11 +238,12 @@ fn sheets<W: Write>(out: &mut W) -> io::Result<()> {
 }
 
 fn main(rt: HostRuntime) -> io::Result<()> {
-    let out = &mut rt.stdout();
-    table(&rt, out)?;
-    lengths(out)?;
-    rooms(out)?;
-    writings(out)?;
-    sheets(out)?;
-    unknown(out)
+    let mut said = Vec::new(rt.alloc());
+    table(&rt, &mut said)?;
+    lengths(&mut said)?;
+    rooms(&mut said)?;
+    writings(&mut said)?;
+    sheets(&mut said)?;
+    unknown(&mut said)?;
+    rt.write_all(said.as_slice())
 }

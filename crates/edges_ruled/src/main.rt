@@ -240,13 +240,14 @@ fn catastrophes<W: Write>(out: &mut W) -> io::Result<()> {
 }
 
 fn main(rt: HostRuntime) -> io::Result<()> {
-    let out = &mut rt.stdout();
-    days(out)?;
-    deadlines(out)?;
-    panels(out)?;
-    prices(out)?;
-    openings(out)?;
-    more_openings(out)?;
-    agreements(out)?;
-    catastrophes(out)
+    let mut said = Vec::new(rt.alloc());
+    days(&mut said)?;
+    deadlines(&mut said)?;
+    panels(&mut said)?;
+    prices(&mut said)?;
+    openings(&mut said)?;
+    more_openings(&mut said)?;
+    agreements(&mut said)?;
+    catastrophes(&mut said)?;
+    rt.write_all(said.as_slice())
 }
