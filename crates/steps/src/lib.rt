@@ -226,9 +226,9 @@ fn catastrophic_why(day: Day, expiry: bool, filed: Seconds) -> u8
         (true, Day::TradeDate) => 7,
         (true, _) => 1,
         (false, Day::TradeDate) => 0,
-        (false, Day::NextDay) if way::no_later(filed, Seconds(30600)) => 0,
-        (false, Day::NextDay) => 9,
-        (false, Day::Later) => 8,
+        (false, day) if !way::is_next_day(day) => 8,
+        (false, _) if way::no_later(filed, Seconds(30600)) => 0,
+        (false, _) => 9,
     }
 }
 
