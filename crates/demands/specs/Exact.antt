@@ -1,5 +1,5 @@
 -- How firm each promise is (RULE R13.2): two results that the promise of a callable function allows are equal, in what it answers and in what it
--- leaves of a lent buffer. Every callable function of every crate stands here, but for the two of `streams`, whose answer is also the reader's or
+-- leaves of a lent buffer. Every callable function of every crate stands here, but for those of `streams`, whose answer is also the reader's or
 -- the writer's (docs/PROMISES.md).
 -- `crate.function.Reads.Post` is the promise as Rattle reads it from the contract in the source: of the arguments, the answer, and the
 -- arguments afterwards.
