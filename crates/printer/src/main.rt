@@ -2,9 +2,9 @@
 // that a longer input, however long, is seen as one of 52,801 bytes and refused as every sheet above 52,800 is. No piece is longer than 96 bytes.
 #![tactic(auto)]
 
-ghost use Rattle.std.specs.Prelude.{◌≡◌, length, take, IfOk, IfSome, OnOk};
+ghost use Rattle.std.specs.Prelude.{◌≡◌, ◌<◌, length, take, IfOk, IfSome, OnOk};
 ghost use Rattle.std.specs.Counts.{IsPrefixLen};
-ghost use Rattle.std.specs.Io.KnownBytes.{Appends};
+ghost use Rattle.std.specs.Io.KnownBytes.{Appends, Consumes, IsAtEnd};
 ghost use Rattle.report.specs.Report.{text_of};
 
 use std::io;
@@ -37,6 +37,8 @@ fn write_report<W: Write>(output: &mut W, sheet: &[u8]) -> io::Result<()>
 // Reads the sheet. How many bytes it has, if none of its reads fails.
 fn read_sheet<R: Read>(input: &mut R, sheet: &mut [u8]) -> Result<usize, Failure>
     ensures in_bounds { IfOk result (λ n. IsPrefixLen n sheet.new) }
+    ensures bytes { IfOk result (λ n. Consumes (R.remaining input.old) (R.remaining input.new) (take n sheet.new)) }
+    ensures end { IfOk result (λ n. n < length sheet.new → IsAtEnd (R.remaining input.new)) }
     ensures first { IfOk result (λ n. IfSome (R.remaining input.old) (λ bytes. take n sheet.new ≡ take (length sheet.new) bytes)) }
 {
     let Ok(n) = streams::read_whole(input, sheet) else {
