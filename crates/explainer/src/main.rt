@@ -50,7 +50,7 @@ fn write_explanation<W: Write>(output: &mut W, sheet: &[u8], want: Option<u32>) 
     Ok(())
 }
 
-// Explains the sheet that the input has. Of one that was not at its end nothing is explained: a part of it must not be answered as if it were all.
+// Explains the sheet that the input has. Of one that stopped before its end nothing is explained: a part of it must not be answered as if it were all.
 fn explain<R: Read, W: Write>(
     want: Option<u32>,
     input: &mut R,

@@ -42,8 +42,8 @@ fn write_filled<W: Write>(output: &mut W, quotes: &[u8], sheet: &mut [u8]) -> io
     Ok(())
 }
 
-// Fills the sheet that the input has, and tells what became of each case. Of one that was not at its end nothing is filled: a part of it must not be taken
-// for all. Where only the telling fails, the sheet is written, and there is nowhere to say so.
+// Fills the sheet that the input has, and tells what became of each case. Of one that stopped before its end nothing is filled: a part of it must not be
+// taken for all. Where only the telling fails, the sheet is written, and there is nowhere to say so.
 fn fill<R: Read, W: Write, E: Write>(
     quotes: &[u8],
     input: &mut R,

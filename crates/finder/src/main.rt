@@ -34,7 +34,7 @@ fn read_time<R: Files>(rt: &R, time: &mut [u8]) -> io::Result<usize>
     Ok(if typed < time.len() { typed } else { 0 })
 }
 
-// Tells where the best prices before the typed time were born, by the quotes that the input has. Of one that was not at its end nothing is told: a part of it
+// Tells where the best prices before the typed time were born, by the quotes that the input has. Of one that stopped before its end nothing is told: a part of it
 // must not be answered as if it were all.
 fn tell<R: Read, W: Write>(time: &[u8], input: &mut R, output: &mut W) -> Result<(), Failure>
     ensures { OnOk result (IfSome (R.remaining input.old) (λ bytes. Appends (W.contents output.old) (W.contents output.new) (best_text (take 65536 bytes) (time_in time.now)))) }

@@ -30,7 +30,7 @@ fn write_warnings<W: Write>(output: &mut W, sheet: &[u8]) -> io::Result<()>
     Ok(())
 }
 
-// Warns of the sheet that the input has. Of one that was not at its end nothing is told, since a part of it is not the sheet.
+// Warns of the sheet that the input has. Of one that stopped before its end nothing is told, since a part of it is not the sheet.
 fn warn<R: Read, W: Write>(input: &mut R, output: &mut W) -> Result<(), Failure>
     ensures { OnOk result (IfSome (R.remaining input.old) (λ bytes. Appends (W.contents output.old) (W.contents output.new) (warnings_of (take 65536 bytes)))) }
 {
