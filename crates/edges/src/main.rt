@@ -101,6 +101,7 @@ fn say_row<W: Write>(out: &mut W, row: &[u8]) -> io::Result<()> {
     reading(out, name, &case)
 }
 
+// The table is read whole before a row is answered, so that nothing is said where it can't be read.
 fn table<W: Write>(rt: &(impl Input + AllocGlobal), out: &mut W) -> io::Result<()> {
     let mut rows = Vec::new(rt.alloc());
     rt.reader().read_to_end(&mut rows)?;

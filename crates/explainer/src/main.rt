@@ -23,7 +23,7 @@ enum Failure {
     Explanation,
 }
 
-// Reads which cases are asked for: those of a trade by its four bytes, every case by none. Behind four nothing may come.
+// Reads which cases are asked for: those of a trade by its four bytes, every case by none. Behind these nothing may come.
 fn read_wanted<R: Files>(rt: &R) -> Result<Option<u32>, Failure> {
     let mut asked = File::open(rt, streams::THIRD).map_err(|_| Failure::Trade)?;
     let mut trade = [0u8; 4];

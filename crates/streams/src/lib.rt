@@ -1,8 +1,8 @@
 // What the programs read and write with: an input up to its end or the buffer's, and an output whole. A call that fails is not tried again, also where
-// a signal interrupted it.
+// a signal interrupted it; `ended` alone asks once more.
 #![tactic(auto)]
 
-ghost use Rattle.std.specs.Prelude.{◌≡◌, ℕ, ◌<◌, length, take, IfOk, IfSome, IsTrue, OnOk, OnErr};
+ghost use Rattle.std.specs.Prelude.{◌≡◌, ℕ, ◌<◌, ◌≤◌, ◌++◌, List, [], length, take, IfOk, IfSome, IsTrue, OnOk, OnErr};
 ghost use Rattle.std.specs.Counts.{IsPrefixLen};
 ghost use Rattle.std.specs.Io.KnownBytes.{Appends, Consumes, IsAtEnd};
 
@@ -55,18 +55,26 @@ pub fn read_whole<R: Read>(input: &mut R, buf: &mut [u8]) -> io::Result<usize>
     Ok(n)
 }
 
-// Whether an input that gave nothing more, or failed, is at its end: then another read gives nothing. A bool, since one that fails is not at its end.
+// Whether an input that gave nothing more, or failed, is at its end: then another read gives nothing. A bool, since one that fails is not at its end. Of
+// one that is not, a byte may be lost.
 pub fn ended<R: Read>(input: &mut R) -> bool
-    ensures { IsTrue result → IsAtEnd (R.remaining input.old) }
+    ensures end { IsTrue result → IsAtEnd (R.remaining input.old) }
+    ensures bytes { IsTrue result → Consumes (R.remaining input.old) (R.remaining input.new) [] }
+    ensures still { IsTrue result → IsAtEnd (R.remaining input.new) }
+    ensures most { (b : List ℕ) × (length b ≤ 1) × Consumes (R.remaining input.old) (R.remaining input.new) b }
 {
     let mut more = [0u8; 1];
     matches!(input.read(&mut more), Ok(0))
 }
 
 // Reads as `read_full` does, and where there is room left asks once more: an input that still gives something, or fails, was not at its end, and a part
-// of it must not be taken for all of it. How many bytes were put at the start of the buffer.
+// of it must not be taken for all of it. How many bytes were put at the start of the buffer; where there is no number, what was read stands there, but for
+// the byte that was asked for.
 pub fn read_ended<R: Read>(input: &mut R, buf: &mut [u8]) -> io::Result<usize>
     ensures in_bounds { IfOk result (λ n. IsPrefixLen n buf.new) }
+    ensures bytes { IfOk result (λ n. Consumes (R.remaining input.old) (R.remaining input.new) (take n buf.new)) }
+    ensures end { IfOk result (λ n. n < length buf.new → IsAtEnd (R.remaining input.new)) }
+    ensures err { OnErr result ((n : ℕ) × IsPrefixLen n buf.new × ((b : List ℕ) × (length b ≤ 1) × Consumes (R.remaining input.old) (R.remaining input.new) (take n buf.new ++ b))) }
     ensures first { IfOk result (λ n. IfSome (R.remaining input.old) (λ xs. take n buf.new ≡ take (length buf.new) xs)) }
 {
     let n = read_full(input, buf);
